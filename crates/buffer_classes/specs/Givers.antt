@@ -1,14 +1,15 @@
 -- Those who give the buffers of all classes back.
-use Rattle.std.specs.Prelude.{◌≡◌, ℕ, ◌+◌, ◌*◌, ◌<◌, ◌≤◌, ◌==◌, List, ◌++◌, count_by, length, vec_capacity}
+use Rattle.std.specs.Prelude.{◌≡◌, ℕ, ◌+◌, ◌*◌, ◌<◌, ◌≤◌, ◌==◌, List, ◌++◌, count_by, length, Some, vec_capacity}
 use mathlib.Core.Option.{Option, some, none}
 use lib.ListN.{get_elem?}
-use Rattle.permit_ring.specs.{ReapsToEnd, OffersAll, AreAllBack, IsSettled, AllAdmitted}
+use Rattle.permit_ring.specs.{ReapsToEnd, OffersAll, AreAllBack, IsSettled, AllAdmitted, first_back}
 use Rattle.buffer_classes.specs.declared.giver.Giver.{Giver}
 use Rattle.buffer_classes.specs.declared.givers.Givers.{Givers}
 use Rattle.buffer_classes.specs.Buffers.{Buffer}
 use Rattle.buffer_classes.specs.Classes.{AreClasses}
-use Rattle.buffer_classes.specs.Giving.{Accounts, ClassMemo, IsFilledUp, IsGiverOf, Takes, filled_count, giver_memo, late_count}
-use Rattle.buffer_classes.specs.Names.{Class, Classes, ClassSeat}
+use Rattle.buffer_classes.specs.Giving.{Accounts, ClassMemo, Frees, IsFilledUp, IsGiverOf, Takes, filled_count, giver_memo, late_count}
+use Rattle.buffer_classes.specs.Names.{Class, Classes, ClassSeat, SeatMemo}
+use Rattle.buffer_classes.specs.Seats.{IsHeldClaimant}
 use Rattle.buffer_classes.specs.declared.seat.ClaimSeat.{ClaimSeat}
 
 -- the giver of each class
@@ -75,3 +76,13 @@ pub record GaveBack (bufs : List Buffer) (i : ℕ) (old new : Giver) : Type 0 wh
 -- the claimant's seat of class i came back
 abbrev pub Welcomed : ClaimSeat → ℕ → Giver → Giver → Type 0
 Welcomed seat i old new = (s : ClassSeat) → get_elem? seat.seats.items i ≡ some s → Takes s old new
+
+-- the claimant's seat of class i, which was held, goes on
+abbrev pub Freed : ClaimSeat → ℕ → Giver → Giver → Type 0
+Freed seat i old new = (s : ClassSeat) → get_elem? seat.seats.items i ≡ some s → Frees s old new
+
+-- the claimant is held, and the first that the giver of each class releases
+pub record IsNextClaimant (classes : Classes) (givers : List Giver) (seat : ClaimSeat) : Type 0 where
+  pub memos : ℕ → SeatMemo
+  pub held : IsHeldClaimant classes memos seat
+  pub first : (i : ℕ) (g : Giver) → get_elem? givers i ≡ some g → first_back (giver_memo g).back ≡ Some (memos i)

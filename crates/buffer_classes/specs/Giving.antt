@@ -3,7 +3,7 @@ use Rattle.std.specs.Prelude.{◌≡◌, ℕ, ◌+◌, ◌<◌, ◌≤◌, ◌�
 use mathlib.Core.Option.{some}
 use lib.ListN.{get_elem?}
 use Rattle.permit_ring.specs.declared.ring.Ring.{Ring}
-use Rattle.permit_ring.specs.{ReapsToEnd, OffersAll, AreAllBack, IsSettled, AllAdmitted, IsKeeperOf, keeper_memo, seat_memo, vacant_of, filled_of, ring_positions, ring_seats, ring_terms, welcomes}
+use Rattle.permit_ring.specs.{ReapsToEnd, OffersAll, AreAllBack, IsSettled, AllAdmitted, Releases, IsKeeperOf, keeper_memo, seat_memo, vacant_of, filled_of, ring_positions, ring_seats, ring_terms, welcomes}
 use Rattle.buffer_classes.specs.declared.giver.Giver.{Giver}
 use Rattle.buffer_classes.specs.Buffers.{Buffer, IsBufferOf}
 use Rattle.buffer_classes.specs.Names.{ClassSeat, ClassTerms, KeeperMemo}
@@ -96,6 +96,14 @@ pub record Offers (old new : Giver) : Type 0 where
 -- a seat of the class came back
 pub record Takes (s : ClassSeat) (old new : Giver) : Type 0 where
   pub told : giver_memo new ≡ welcomes (seat_memo s) (giver_memo old)
+  pub late_is : new.late ≡ old.late
+  pub filled_is : filled_count new ≡ filled_count old
+  pub vacant_is : vacant_count new ≡ vacant_count old
+  pub number_is : new.number ≡ old.number
+
+-- a seat of the class that was held goes on
+pub record Frees (s : ClassSeat) (old new : Giver) : Type 0 where
+  pub told : Releases (giver_memo old) (giver_memo new) (seat_memo s)
   pub late_is : new.late ≡ old.late
   pub filled_is : filled_count new ≡ filled_count old
   pub vacant_is : vacant_count new ≡ vacant_count old

@@ -11,8 +11,8 @@ pub use Rattle.buffer_classes.specs.Buffers.{Buffer, filled_with, IsBufferOf, fo
 pub use Rattle.buffer_classes.specs.ByIndex.{AllOf}
 pub use Rattle.buffer_classes.specs.Claims.{ticket, asked, lost_at, Asks, AsksClass, ClaimTells, claim_with, outcome_of, AreSmall, HoldsSoMany}
 pub use Rattle.buffer_classes.specs.Classes.{class_sizes, first_fitting, RiseFrom, class_terms, AreClasses}
-pub use Rattle.buffer_classes.specs.Givers.{givers_of, AreGiversOf, IsBufferIn, AreBuffersIn, class_count, late_of, GaveBack, Welcomed}
-pub use Rattle.buffer_classes.specs.Giving.{ClassMemo, giver_memo, vacant_count, filled_count, IsGiverOf, Begins, Puts, Offers, Takes, late_count, in_all, IsFilledUp, ReapsAll, FillsLate}
+pub use Rattle.buffer_classes.specs.Givers.{givers_of, AreGiversOf, IsBufferIn, AreBuffersIn, class_count, late_of, GaveBack, Welcomed, Freed, IsNextClaimant}
+pub use Rattle.buffer_classes.specs.Giving.{ClassMemo, giver_memo, vacant_count, filled_count, IsGiverOf, Begins, Puts, Offers, Takes, Frees, late_count, in_all, IsFilledUp, ReapsAll, FillsLate}
 pub use Rattle.buffer_classes.specs.Making.{IsSpec, spec_sizes, AreSpecs, IsNewGiver, IsNewClass, GetsOne, GetsSeat, IsNewClaimant, AreNewClasses, AreUnseated, HasRoom}
 pub use Rattle.buffer_classes.specs.Names.{SeatMemo, Outcome, ClassTerms, Lost, Got, Class, ClassSeat}
-pub use Rattle.buffer_classes.specs.Seats.{claimant_of, claims_of, steps_of, memo_in, memo_at, log_of, IsClassSeat, IsHisSeat, IsClaimSeatOf}
+pub use Rattle.buffer_classes.specs.Seats.{claimant_of, claims_of, steps_of, memo_in, memo_at, log_of, IsClassSeat, IsHisSeat, IsClaimSeatOf, IsHisHeld, IsHeldClaimant}

@@ -3,7 +3,7 @@ use Rattle.std.specs.Prelude.{◌≡◌, ℕ, ◌≤◌, List, length, sum_by, N
 use mathlib.Core.Option as maybe
 use mathlib.Core.Option.{some, none}
 use lib.ListN.{get_elem?}
-use Rattle.permit_ring.specs.{IsOrdered, IsSeatOf, seat_calls, seat_memo, seat_number, seat_ticket, new_memo}
+use Rattle.permit_ring.specs.{IsHeldAs, IsOrdered, IsSeatOf, seat_calls, seat_memo, seat_number, seat_ticket, new_memo}
 use Rattle.buffer_classes.specs.Buffers.{IsBufferOf}
 use Rattle.buffer_classes.specs.Classes.{AreClasses}
 use Rattle.buffer_classes.specs.Names.{Class, Classes, ClassSeat, Outcome, SeatMemo}
@@ -53,3 +53,16 @@ pub record IsClaimSeatOf (classes : Classes) (seat : ClaimSeat) : Type 0 where
   pub room : vec_capacity seat.seats ≡ vec_capacity classes.classes
   pub each : (i : ℕ) (class : Class) (s : ClassSeat) → get_elem? classes.classes.items i ≡ some class
       → get_elem? seat.seats.items i ≡ some s → IsHisSeat seat.number seat.claims class s
+
+-- the seat of the claimant of a number, who has made so many claims, is held, and the memo is what is known of it
+pub record IsHisHeld (number claims : ℕ) (memo : SeatMemo) (seat : ClassSeat) : Type 0 where
+  pub held : IsHeldAs memo seat
+  pub ordered : IsOrdered memo
+  pub number_is : memo.number ≡ number
+  pub calls_within : memo.view.calls ≤ claims
+
+-- a claimant of these classes is held, and the memos are what is known of its seats
+pub record IsHeldClaimant (classes : Classes) (memos : ℕ → SeatMemo) (seat : ClaimSeat) : Type 0 where
+  pub all : length seat.seats.items ≡ length classes.classes.items
+  pub room : vec_capacity seat.seats ≡ vec_capacity classes.classes
+  pub each : (i : ℕ) (s : ClassSeat) → get_elem? seat.seats.items i ≡ some s → IsHisHeld seat.number seat.claims (memos i) s

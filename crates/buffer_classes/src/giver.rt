@@ -1,7 +1,8 @@
 //! The one who gives the buffers of one class back.
 ghost use Rattle.std.specs.Prelude.{◌≡◌, ◌<◌, None};
-ghost use Rattle.permit_ring.specs.Seats.{IsSeatOf, filled_of, ring_terms, seat_ticket, vacant_of};
-ghost use Rattle.buffer_classes.specs.{IsBufferOf, Begins, FillsLate, IsFilledUp, IsGiverOf, Offers, Puts, ReapsAll, Takes, late_count};
+ghost use Rattle.permit_ring.specs.Seats.{IsHeldAs, IsNextHeld, IsSeatOf, filled_of, ring_terms, seat_memo, seat_ticket, vacant_of};
+ghost use Rattle.permit_ring.specs.Steps.{ended};
+ghost use Rattle.buffer_classes.specs.{IsBufferOf, Begins, FillsLate, Frees, IsFilledUp, IsGiverOf, Offers, Puts, ReapsAll, Takes, giver_memo, late_count};
 
 use crate::buffer::CtxBuf;
 use crate::class::Buffers;
@@ -87,5 +88,29 @@ impl Giver {
         ensures did { Takes seat self.old self.new }
     {
         self.keeper.welcome(ring, seat);
+    }
+
+    // Takes a seat of the class back for a while.
+    pub(crate) fn hold(&mut self, ring: &Ring<Buffers>, seat: &mut Seat<Buffers>)
+        requires mine { IsGiverOf ring.now self.old }
+        requires seat { IsSeatOf IsBufferOf ring.now seat.old }
+        requires idle { seat_ticket seat.old ≡ None }
+        ensures mine { IsGiverOf ring.now self.new }
+        ensures did { Takes seat.old self.old self.new }
+        ensures held { IsHeldAs (ended (seat_memo seat.old)) seat.new }
+    {
+        self.keeper.hold(ring, seat);
+    }
+
+    // Releases the first seat of the class that is held.
+    pub(crate) fn release(&mut self, ring: &Ring<Buffers>, seat: &mut Seat<Buffers>)
+        requires mine { IsGiverOf ring.now self.old }
+        requires held { IsNextHeld (giver_memo self.old) seat.old }
+        ensures mine { IsGiverOf ring.now self.new }
+        ensures seat { IsSeatOf IsBufferOf ring.now seat.new }
+        ensures idle { seat_ticket seat.new ≡ None }
+        ensures did { Frees seat.new self.old self.new }
+    {
+        self.keeper.release(ring, seat);
     }
 }

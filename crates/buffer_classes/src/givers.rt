@@ -1,6 +1,7 @@
 //! Those who give the buffers of all classes back.
 ghost use Rattle.std.specs.Prelude.{◌≡◌, ◌<◌, [], length, vec_capacity};
-ghost use Rattle.buffer_classes.specs.{AllOf, class_sizes, AreBuffersIn, AreGiversOf, GaveBack, Welcomed, givers_of, late_of, IsClaimSeatOf};
+ghost use Rattle.buffer_classes.specs.{AllOf, class_sizes, AreBuffersIn, AreGiversOf, Freed, GaveBack, Welcomed, givers_of, late_of, memo_at, IsClaimSeatOf, IsHeldClaimant, IsNextClaimant};
+ghost use Rattle.permit_ring.specs.Steps.{ended};
 
 use crate::buffer::CtxBuf;
 use crate::class::Classes;
@@ -61,6 +62,36 @@ impl Givers {
         while let Some(its) = seat.seats.pop() {
             let class = seat.seats.len();
             self.givers[class].take_back(&classes.classes[class].ring, its);
+        }
+    }
+
+    /// Takes a claimant back for a while: whoever has it keeps it, and can claim nothing by it until it is released.
+    /// Steps: two loads for each class, at most 4. By: `told` (`Welcomed`: `welcomes`).
+    pub fn hold(&mut self, classes: &Classes, seat: &mut ClaimSeat)
+        requires mine { AreGiversOf classes.now self.old }
+        requires seat { IsClaimSeatOf classes.now seat.old }
+        ensures mine { AreGiversOf classes.now self.new }
+        ensures told { AllOf (Welcomed seat.old) (givers_of self.old) (givers_of self.new) }
+        ensures held { IsHeldClaimant classes.now (λ i. ended (memo_at seat.old i)) seat.new }
+        ensures same { (seat.new.number ≡ seat.old.number) × (seat.new.claims ≡ seat.old.claims) }
+    {
+        for class in 0..seat.seats.len() {
+            self.givers[class].hold(&classes.classes[class].ring, &mut seat.seats[class]);
+        }
+    }
+
+    /// Releases the first claimant that is held.
+    /// Steps: one load for each class, at most 4. By: `told` (`Freed`: `Releases`).
+    pub fn release(&mut self, classes: &Classes, seat: &mut ClaimSeat)
+        requires mine { AreGiversOf classes.now self.old }
+        requires held { IsNextClaimant classes.now (givers_of self.old) seat.old }
+        ensures mine { AreGiversOf classes.now self.new }
+        ensures seat { IsClaimSeatOf classes.now seat.new }
+        ensures told { AllOf (Freed seat.new) (givers_of self.old) (givers_of self.new) }
+        ensures same { (seat.new.number ≡ seat.old.number) × (seat.new.claims ≡ seat.old.claims) }
+    {
+        for class in 0..seat.seats.len() {
+            self.givers[class].release(&classes.classes[class].ring, &mut seat.seats[class]);
         }
     }
 }

@@ -1,4 +1,5 @@
 pub mod HandLemmas
+pub mod Holding
 pub mod KeeperSteps
 pub mod ListLemmas
 pub mod Lives
@@ -12,6 +13,7 @@ pub mod SeatSteps
 pub mod Settled
 pub mod States
 pub use Rattle.permit_ring.proofs.HandLemmas.{in_front, none_filled, ready_is, hand_reaped, hand_offered, turned_more, hand_length, turned_to, vacant_fit, one_more_filled}
+pub use Rattle.permit_ring.proofs.Holding.{blanks_allowed, releases_allowed, first_at, rested_ordered}
 pub use Rattle.permit_ring.proofs.KeeperSteps.{see_ready, offer_ready, read_ready, sweep_ready}
 pub use Rattle.permit_ring.proofs.ListLemmas.{at_length, there, at_end}
 pub use Rattle.permit_ring.proofs.Lives.{splits_allowed, joins_allowed}

@@ -1,5 +1,5 @@
 -- The log of a seat and what became of tickets, with one call or one ticket more.
-use Rattle.permit_ring.proofs.Names.{◌≡◌, ◌≢◌, ℕ, zero, suc, ◌+◌, ◌<◌, ◌≤◌, ◌⊎◌, Bool, true, false, cond, List, [], ◌∷◌, ◌++◌, set, Option, Some, None, refl, ◌∙◌, ap, inl, inr, eqb, ne_eqb, eqb-true, arith, common_steps, at_map, map, Outcome, Lost, Got, start_of, end_of, RisesFrom, end_from, got_of, taken_by, get_elem?, some, fate_within, lost}
+use Rattle.permit_ring.proofs.Names.{◌≡◌, ◌≢◌, ℕ, zero, suc, ◌+◌, ◌<◌, ◌≤◌, ◌⊎◌, Bool, true, false, cond, List, [], ◌∷◌, ◌++◌, set, Option, Some, None, refl, ◌∙◌, ap, inl, inr, eqb, ne_eqb, eqb-true, ⊎_elim, at_snoc, Rest, SeesRests, arith, common_steps, at_map, map, Outcome, Lost, Got, start_of, end_of, RisesFrom, end_from, got_of, taken_by, get_elem?, some, fate_within, lost}
 use Rattle.permit_ring.specs.Logs.{fate_of}
 
 module _ {N : Type 0} where
@@ -12,6 +12,12 @@ module _ {N : Type 0} where
   pub end_on : (low : ℕ) (log : List (Outcome N)) (x : Outcome N) → end_from low (log ++ x ∷ []) ≡ end_of x
   end_on low [] x = refl
   end_on low (r ∷ log) x = end_on (end_of r) log x
+
+  -- a call that sees the rests
+  pub sees_on : (rests : List Rest) (log : List (Outcome N)) (x : Outcome N) → SeesRests rests log
+      → ((l g : ℕ) (rest : Rest) → get_elem? rests l ≡ some rest → x ≡ Lost g → rest.offered ≤ g) → SeesRests rests (log ++ x ∷ [])
+  sees_on rests log x sees last l j g rest at past e =
+      ⊎_elim (sees l j g rest at past) (last l g rest at) (at_snoc log x (Lost g) j e)
 
   -- the tickets of more calls come after
   pub got_of-append : (log more : List (Outcome N)) → got_of (log ++ more) ≡ got_of log ++ got_of more

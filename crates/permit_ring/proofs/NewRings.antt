@@ -51,7 +51,7 @@ untouched {N = N} n (suc (suc made)) =
 
 -- the log of a seat that has just been made is in order
 pub new_ordered : {N : Type 0} (i : ℕ) → IsOrdered (new_memo {N = N} i)
-new_ordered i = record { decided = refl; rises = tt; below_ticket = λ t h. omega arith }
+new_ordered i = record { decided = refl; rises = tt; sees = λ l j g rest at. absurd (some-ne-none rest (sym at)); below_ticket = λ t h. omega arith }
 
 -- one seat more
 pub one_seat_more : {F O D T N : Type 0} (Ao : T → O → Type 0) (ring : Ring F O D T N) (made : ℕ) (seats : List (Seat F O D T N))

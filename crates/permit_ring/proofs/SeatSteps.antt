@@ -1,7 +1,7 @@
 -- Each step of a seat keeps the rule.
-use Rattle.permit_ring.proofs.Names.{◌≡◌, ◌≢◌, ℕ, suc, ◌+◌, ◌%◌, ◌^◌, ◌<◌, ◌≤◌, ◌==◌, true, false, List, [], ◌∷◌, ◌++◌, set, length, Option, Some, None, refl, sym, ◌∙◌, ap, slice_index, arith, ⊎_elim, le_refl, eq-eqb, ne_eqb, cases_lt, lt-ltb, le-ltb, length-set, length_push, at_last, at_longer, at_set, at_snoc, set_else, set_here, State, step, keeps, takes, gives, Allows, Step, Look, Claim, Finish, Mark, Key, Move, Lost, Got, SeatMemo, Slot, Offered, Finished, View, Sits, IsOrdered, end_from, got_of, taken_by, found_at, is_of_seat, is_of_keeper, Known, saw_word, claimed_word, marked_loss, finished_value, words_of, StandsIn, AreFates, AreSlots, Counts, IsSeatMemo, Runs, Outcome, RisesFrom, append-nil, and_move, and_lost, looks, claims, adds_mark, finishes, Machine, opening, possible, after, served, is_idle, looked, seat_at, marks_of, marked, Holds, packed, unpacked, IsPackable, IsReadable, small, word_packs, all_claimed, armed_leaves_field, after_keeps, next_of_possible, idle_parts, live_is_made, seat_at-here, seat_at-else, holders_stay, unpacked-packed, packed-claimed, get_elem?, some, none}
+use Rattle.permit_ring.proofs.Names.{◌≡◌, ◌≢◌, ℕ, suc, ◌+◌, ◌%◌, ◌^◌, ◌<◌, ◌≤◌, ◌==◌, true, false, List, [], ◌∷◌, ◌++◌, set, length, Option, Some, None, refl, sym, ◌∙◌, ap, slice_index, arith, ⊎_elim, le_refl, eq-eqb, ne_eqb, cases_lt, lt-ltb, le-ltb, length-set, length_push, at_last, at_longer, at_set, at_snoc, set_else, set_here, State, step, keeps, takes, gives, Allows, Step, Look, Claim, Finish, Mark, Key, Move, Lost, Got, SeatMemo, Slot, Offered, Finished, View, Sits, IsOrdered, end_from, got_of, taken_by, found_at, is_of_seat, is_of_keeper, Known, saw_word, claimed_word, marked_loss, finished_value, words_of, StandsIn, SeesRests, AreFates, AreSlots, Counts, IsSeatMemo, Runs, Outcome, RisesFrom, append-nil, and_move, and_lost, looks, claims, adds_mark, finishes, Machine, opening, possible, after, served, is_idle, looked, seat_at, marks_of, marked, Holds, packed, unpacked, IsPackable, IsReadable, small, word_packs, all_claimed, armed_leaves_field, after_keeps, next_of_possible, idle_parts, live_is_made, seat_at-here, seat_at-else, holders_stay, unpacked-packed, packed-claimed, get_elem?, some, none}
 use mathlib.Core.Option as maybe
-use Rattle.permit_ring.proofs.LogLemmas.{taken-open, taken-else, taken-own, rises_on, end_on, got_of-append}
+use Rattle.permit_ring.proofs.LogLemmas.{taken-open, taken-else, taken-own, rises_on, sees_on, end_on, got_of-append}
 use Rattle.permit_ring.proofs.ListLemmas.{at_end, at_length}
 use Rattle.permit_ring.proofs.States.{ring_of, sizes_of, one_turn_ahead, not_first, seated, fates_stay, slots_stay, slots_set, leads_on, by_seat-on, by_keeper-on}
 
@@ -25,7 +25,7 @@ module _ {O D T N : Type 0} {note : D → N} {Ao : T → O → Type 0} {An : T �
     its_alone : ((j : ℕ) → is_of_seat j step ≡ (j == memo.number)) × (is_of_keeper step ≡ false)
     possible_here : possible r.machine step ≡ true
     seats_are : (after r.machine step).seats ≡ set r.machine.seats memo.number new.view
-    same : (new.number ≡ memo.number) × (new.view.live ≡ memo.view.live)
+    same : (new.number ≡ memo.number) × (new.view.live ≡ memo.view.live) × (new.rests ≡ memo.rests)
     moved : new.moves ≡ and_move memo.moves step (found_at r.machine step)
     counts : Counts key.positions (after r.machine step) r.keeper
     claims_grow : r.machine.word.claimed ≤ (after r.machine step).word.claimed
@@ -52,11 +52,11 @@ module _ {O D T N : Type 0} {note : D → N} {Ao : T → O → Type 0} {An : T �
     seat_runs {step} {later} {new} {words} {homes} to told slots =
         let moves : List Move = and_move r.moves step (found_at r.machine step) in
         let mine : IsSeatMemo (after r.machine step) moves later r.keeper.fronts r.keeper.made new =
-        grind (arith, its, to, eq-eqb, made_there, by_seat-on, seat_at-here) in
+        grind (arith, its, to, r.knows.counted, eq-eqb, made_there, by_seat-on, seat_at-here) in
         let others : (other : SeatMemo N) → other.number ≢ memo.number
         → IsSeatMemo r.machine r.moves r.fates r.keeper.fronts r.keeper.made other
         → IsSeatMemo (after r.machine step) moves later r.keeper.fronts r.keeper.made other =
-        λ other away knew. grind (arith, to, ne_eqb, made_there, by_seat-on, seat_at-else) in
+        λ other away knew. grind (arith, to, r.knows.counted, knew, ne_eqb, made_there, by_seat-on, seat_at-else) in
         record {
           sizes = r.sizes;
           machine = after r.machine step;
@@ -82,6 +82,7 @@ module _ {O D T N : Type 0} {note : D → N} {Ao : T → O → Type 0} {An : T �
     order_now : RisesFrom 0 (and_lost r.machine.word memo.log) × (end_from 0 (and_lost r.machine.word memo.log) ≤ r.machine.word.claimed)
         × (got_of (and_lost r.machine.word memo.log) ≡ got_of memo.log)
         × ((j g : ℕ) → get_elem? (and_lost r.machine.word memo.log) j ≡ some (Lost g) → StandsIn r.keeper.fronts g)
+        × SeesRests memo.rests (and_lost r.machine.word memo.log)
     order_now =
         -- where none is free, the number of claims is the last front
         let front : r.machine.word.free ≡ 0 → StandsIn r.keeper.fronts r.machine.word.claimed =
@@ -91,7 +92,9 @@ module _ {O D T N : Type 0} {note : D → N} {Ao : T → O → Type 0} {An : T �
         let call : Outcome N = Lost r.machine.word.claimed in
         let on = rises_on 0 memo.log call its.ordered.rises its.below_claims in
         let last = λ (j g : ℕ). at_snoc memo.log call (Lost g) j in
-        grind (arith, its, on, append-nil (got_of memo.log), end_on 0 memo.log call, got_of-append memo.log (call ∷ []))
+        let sees : r.machine.word.free ≡ 0 → SeesRests memo.rests (memo.log ++ call ∷ []) = λ full. sees_on memo.rests memo.log call its.ordered.sees
+        (λ l g rest at e. let known = its.rested l rest at in let all = all_claimed r.machine (ring_of r) full in grind (arith, e)) in
+        grind (arith, its, on, sees, append-nil (got_of memo.log), end_on 0 memo.log call, got_of-append memo.log (call ∷ []))
 
     -- a claim of an armed seat
     module _ (armed : memo.view.armed ≡ true) where
@@ -220,6 +223,7 @@ module _ {O D T N : Type 0} (note : D → N) (Ao : T → O → Type 0) (An : T �
       let own = taken-own memo.number t (note d) r.fates memo.log knows.ordered.rises after_log knows.got open_now in
       let others = λ (j : ℕ) (other : j ≢ memo.number). taken-else j memo.number 0 (note d) r.fates t other open_now in
       let last = λ (j g : ℕ). at_snoc memo.log call (Lost g) j in
+      let sees = sees_on memo.rests memo.log call knows.ordered.sees (λ l g rest at e. grind (arith, e)) in
       let to : IsStepTo r memo (Finish memo.number) later (finishes (note d) memo) =
       grind (arith, knows, held, out, no_ticket r id at, got_of-append memo.log (call ∷ []), end_on 0 memo.log call, length_push memo.log call) in
       let three : t % key.positions + 3 ≡ suc (suc (suc (t % key.positions))) = omega arith in (

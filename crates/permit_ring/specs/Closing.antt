@@ -3,7 +3,7 @@ use Rattle.std.specs.Prelude.{◌≡◌, ℕ, zero, suc, ◌<◌, ◌≤◌, Lis
 use mathlib.Core.Option.{some}
 use lib.ListN.{get_elem?}
 use Rattle.permit_ring.specs.Names.{KeeperMemo, SeatMemo, marks_of, AreAllDecided}
-use Rattle.permit_ring.specs.Logs.{end_from, fate_of, got_of, taken_by}
+use Rattle.permit_ring.specs.Logs.{SeesRests, end_from, fate_of, got_of, taken_by}
 use Rattle.permit_ring.specs.Order.{HaveOneOrder}
 use Rattle.permit_ring.specs.Rule.{StandsIn}
 
@@ -21,6 +21,8 @@ module _ {N : Type 0} where
     pub number_is : memo.number ≡ i
     pub calls_are : memo.view.calls ≡ length memo.log
     pub decided : AreAllDecided (length taken) (StandsIn fronts) (map fate_of memo.log)
+    -- what was lost after a rest saw what had been offered by then
+    pub sees : SeesRests memo.rests memo.log
     -- it got just the tickets that are its own
     pub got : got_of memo.log ≡ taken_by i 0 (map Some taken)
 

@@ -1,7 +1,9 @@
 -- What became of the calls of a seat, and of the tickets of a ring.
 use Rattle.std.specs.Prelude.{◌≡◌, ℕ, suc, ◌+◌, ◌≤◌, ◌==◌, ◌||◌, is_some, if◌then◌else◌, List, [], ◌∷◌, map, length, Option, Some, None}
 use Rattle.ids_types.specs.Fates as fates
-use Rattle.permit_ring.specs.Names.{SeatView, Outcome, Lost, Got, SeatMemo, Fate, lost, accepted, FatesFrom}
+use mathlib.Core.Option.{some}
+use lib.ListN.{get_elem?}
+use Rattle.permit_ring.specs.Names.{SeatView, Outcome, Lost, Got, Rest, SeatMemo, Fate, lost, accepted, FatesFrom}
 use Rattle.ring_core.specs.Sound.{Holds}
 
 module _ {N : Type 0} where
@@ -41,8 +43,14 @@ module _ {N : Type 0} where
 abbrev pub undecided : SeatView → ℕ
 undecided seat = if seat.armed || is_some seat.held then 1 else 0
 
+-- a call that was lost after a rest saw all that had been offered by then
+abbrev pub SeesRests : {N : Type 0} → List Rest → List (Outcome N) → Type 0
+SeesRests rests log = (l j g : ℕ) (rest : Rest) → get_elem? rests l ≡ some rest → rest.calls ≤ j → get_elem? log j ≡ some (Lost g)
+    → rest.offered ≤ g
+
 -- the calls of a seat are in order, and a held ticket is after all of them
 pub record IsOrdered {N : Type 0} (memo : SeatMemo N) : Type 0 where
   pub decided : memo.view.calls ≡ length memo.log + undecided memo.view
   pub rises : RisesFrom 0 memo.log
+  pub sees : SeesRests memo.rests memo.log
   pub below_ticket : (t : ℕ) → Holds memo.view t → end_from 0 memo.log ≤ t

@@ -2,7 +2,7 @@
 pub use Rattle.ring_core.specs.declared.seat.SeatView.{SeatView}
 pub use Rattle.ring_core.specs.declared.seat.Ticket0.{Ticket0}
 pub use Rattle.ring_core.specs.declared.step.Step.{Step}
-pub use Rattle.ring_core.specs.declared.step.Step.TheVariants.{Look, Claim, Finish, See, Read, Offer, Mark, Sweep, Split, Join}
+pub use Rattle.ring_core.specs.declared.step.Step.TheVariants.{Look, Claim, Finish, See, Read, Offer, Mark, Sweep, Split, Join, Resume}
 pub use Rattle.ring_core.specs.declared.word.PermitWord.{PermitWord}
 pub use Rattle.permit_ring.specs.declared.answer.Unready.{Unready}
 pub use Rattle.permit_ring.specs.declared.keeper.Keeper.{Keeper}
@@ -11,6 +11,7 @@ pub use Rattle.permit_ring.specs.declared.memo.KeeperMemo.{KeeperMemo}
 pub use Rattle.permit_ring.specs.declared.memo.Move.{Move}
 pub use Rattle.permit_ring.specs.declared.memo.Outcome.{Outcome}
 pub use Rattle.permit_ring.specs.declared.memo.Outcome.TheVariants.{Lost, Got}
+pub use Rattle.permit_ring.specs.declared.memo.Rest.{Rest}
 pub use Rattle.permit_ring.specs.declared.memo.SeatMemo.{SeatMemo}
 pub use Rattle.permit_ring.specs.declared.memo.Slot.{Slot}
 pub use Rattle.permit_ring.specs.declared.memo.Slot.TheVariants.{Empty, Offered, Finished}

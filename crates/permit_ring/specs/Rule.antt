@@ -4,7 +4,7 @@ use mathlib.Core.Option.{some, none}
 use mathlib.Core.Option as maybe
 use lib.ListN.{get_elem?}
 use Rattle.atomic_table.specs.Table.{State}
-use Rattle.permit_ring.specs.Names.{PermitWord, Key, KeeperMemo, Move, Lost, SeatMemo, Slot, Offered, Finished, View, Sits, Keeps, Spent, Machine, opening, new_seat, seat_at, Holds, packed}
+use Rattle.permit_ring.specs.Names.{PermitWord, Key, KeeperMemo, Move, Lost, Rest, SeatMemo, Slot, Offered, Finished, View, Sits, Keeps, Spent, Machine, opening, new_seat, seat_at, Holds, packed}
 use Rattle.permit_ring.specs.Logs.{IsOrdered, end_from, got_of, taken_by}
 use Rattle.permit_ring.specs.Moves.{Leads, by_seat, by_keeper}
 use Rattle.permit_ring.specs.Steps.{first_memo}
@@ -70,6 +70,8 @@ module _ {N : Type 0} where
     pub got : got_of memo.log ≡ taken_by memo.number 0 fates
     -- a call is lost only where all that was offered is claimed
     pub lost_at_front : (j g : ℕ) → get_elem? memo.log j ≡ some (Lost g) → StandsIn fronts g
+    -- what had been offered at a rest still is
+    pub rested : (l : ℕ) (rest : Rest) → get_elem? memo.rests l ≡ some rest → rest.offered ≤ m.offered
 
   -- what the keeper knows
   pub record IsKeeperMemo (n : ℕ) (m : Machine) (moves : List Move) (fates : List (Option (ℕ × N))) (k : KeeperMemo N) : Type 0 where

@@ -5,6 +5,7 @@ use Rattle.permit_ring.specs.Names.{Keeper, Ticket0, KeeperMemo, SeatMemo, Slot,
 use Rattle.permit_ring.specs.Hands.{hand_from, filled_then, AllAdmitted}
 use Rattle.permit_ring.specs.Told.{IsWord, seat_in, keeper_in}
 use Rattle.permit_ring.specs.Rule.{IsKey}
+use Rattle.permit_ring.specs.Steps.{first_back}
 
 -- the ticket as the machine has it
 abbrev pub machine_ticket : Option Ticket → Option Ticket0
@@ -64,6 +65,20 @@ module _ {F O D T N : Type 0} where
     pub ring_is : IsSized ring
     pub at_table : place.table_id ≡ ring.table.shared.table_id
     pub keeps : place.me.0 ≡ Keeps ring.table.shared.key (keeper_in place.me.0)
+
+  -- the seat is held by the keeper, which knows of it what the memo says
+  pub record IsHeldAs (memo : SeatMemo N) (seat : Seat F O D T N) : Type 0 where
+    pub number_is : seat.number ≡ memo.number
+    pub calls_are : seat.calls ≡ memo.view.calls
+    pub is_idle : seat.held ≡ None
+    pub none_held : memo.view.held ≡ None
+    pub not_armed : memo.view.armed ≡ false
+
+  -- and is the first that the keeper releases
+  pub record IsNextHeld (k : KeeperMemo N) (seat : Seat F O D T N) : Type 0 where
+    pub memo : SeatMemo N
+    pub is_first : first_back k.back ≡ Some memo
+    pub held : IsHeldAs memo seat
 
 -- an idle seat has no slot in hand, and one with a ticket has its position's, with what was offered
 abbrev pub HasInHand : {O D : Type 0} → (O → Type 0) → ℕ → Option Ticket → List (ℕ × Slot O D) → Type 0

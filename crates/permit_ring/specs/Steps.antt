@@ -1,6 +1,6 @@
 -- What each step adds to what its seat or the keeper knows.
-use Rattle.std.specs.Prelude.{ℕ, ◌+◌, false, nat_lt, ◌==◌, if◌then◌else◌, List, [], ◌∷◌, ◌++◌, slice_set, Option, Some, None, zero, suc}
-use Rattle.permit_ring.specs.Names.{Ticket0, Step, Look, Claim, Finish, See, Read, Offer, Mark, Sweep, Split, Join, PermitWord, KeeperMemo, Move, Outcome, Lost, Got, SeatMemo, new_seat, looked, served, marked, offered_to, all_free, packed}
+use Rattle.std.specs.Prelude.{◌≡◌, ℕ, ◌+◌, true, false, nat_lt, ◌==◌, if◌then◌else◌, List, [], ◌∷◌, ◌++◌, slice_set, Option, Some, None, zero, suc}
+use Rattle.permit_ring.specs.Names.{Ticket0, Step, Look, Claim, Finish, See, Read, Offer, Mark, Sweep, Split, Join, Resume, PermitWord, KeeperMemo, Move, Outcome, Lost, Got, SeatMemo, new_seat, looked, served, marked, offered_to, all_free, packed}
 use Rattle.permit_ring.specs.Moves.{move}
 
 -- one move more
@@ -19,7 +19,7 @@ module _ {N : Type 0} where
 
   -- a seat that has just been made
   abbrev pub new_memo : ℕ → SeatMemo N
-  new_memo number = record { number = number; view = new_seat; log = []; moves = [] }
+  new_memo number = record { number = number; view = new_seat; log = []; moves = []; rests = [] }
 
   -- after a look that read the word
   abbrev pub looks : ℕ → PermitWord → SeatMemo N → SeatMemo N
@@ -107,3 +107,32 @@ module _ {N : Type 0} where
   -- after a seat came back
   abbrev pub welcomes : SeatMemo N → KeeperMemo N → KeeperMemo N
   welcomes memo k = record k { back = slice_set k.back memo.number (Some (ended memo)); moves = and_move k.moves (Join memo.number) 0 }
+
+  -- the first seat that is back, as it came back
+  abbrev pub first_back : List (Option (SeatMemo N)) → Option (SeatMemo N)
+  first_back [] = None
+  first_back (None ∷ back) = first_back back
+  first_back (Some memo ∷ back) = Some memo
+
+  -- after a seat that was back went on
+  abbrev pub resumes : SeatMemo N → KeeperMemo N → KeeperMemo N
+  resumes memo k = record k { back = slice_set k.back memo.number None; moves = and_move k.moves (Resume memo.number) 0 }
+
+  -- the memo of a seat that goes on, where so many positions were offered
+  abbrev pub resumed : ℕ → SeatMemo N → SeatMemo N
+  resumed offered memo = record memo {
+    view = record memo.view { live = true };
+    rests = memo.rests ++ record { calls = memo.view.calls; offered = offered } ∷ [];
+  }
+
+  -- the keeper after that, where a seat is back
+  abbrev pub goes_on : KeeperMemo N → Option (SeatMemo N) → KeeperMemo N
+  goes_on k None = k
+  goes_on k (Some memo) = resumes memo k
+
+  -- the first seat that is back goes on
+  pub record Releases (old new : KeeperMemo N) (seat : SeatMemo N) : Type 0 where
+    pub memo : SeatMemo N
+    pub is_first : first_back old.back ≡ Some memo
+    pub keeper_is : new ≡ resumes memo old
+    pub seat_is : seat ≡ resumed old.offered memo

@@ -1,10 +1,10 @@
 -- What each atomic step tells its seat or the keeper: of the step, what was known and held before, the number found, and what is known and held after.
-use Rattle.std.specs.Prelude.{◌≡◌, ◌≢◌, ℕ, ◌+◌, ◌-◌, ◌%◌, ◌^◌, ◌<◌, ◌≤◌, List, [], ◌∷◌, length, drop, sum, suc}
+use Rattle.std.specs.Prelude.{◌≡◌, ◌≢◌, ℕ, ◌+◌, ◌-◌, ◌%◌, ◌^◌, ◌<◌, ◌≤◌, List, [], ◌∷◌, length, drop, sum, suc, Option, Some, None}
 use Rattle.atomic_table.specs.Table.{Me, Step, rest}
-use Rattle.permit_ring.specs.Names.{PermitWord, KeeperMemo, SeatMemo, Slot, Empty, Offered, Finished, View, Sits, Keeps, Spent, offered_to, unpacked, field_of, IsPackable, IsReadable}
+use Rattle.permit_ring.specs.Names.{Key, PermitWord, KeeperMemo, SeatMemo, Slot, Empty, Offered, Finished, View, Sits, Keeps, Spent, offered_to, unpacked, field_of, IsPackable, IsReadable}
 use Rattle.permit_ring.specs.Closing.{AreAllBack, IsAllReaped, IsSettled, AreAllSwept, swept_of}
 use Rattle.permit_ring.specs.Logs.{IsOrdered}
-use Rattle.permit_ring.specs.Steps.{new_memo, first_memo, looks, claims, finishes, adds_mark, waits, reaps, reads, offers_all, misses, sweeps, makes, welcomes}
+use Rattle.permit_ring.specs.Steps.{new_memo, first_memo, looks, claims, finishes, adds_mark, waits, reaps, reads, offers_all, misses, sweeps, makes, welcomes, first_back, goes_on, resumed}
 
 -- a word of a ring with n positions, which can be told from its number
 pub record IsWord (n limit : ℕ) (word : PermitWord) : Type 0 where
@@ -66,6 +66,25 @@ module _ {T N : Type 0} where
 
   abbrev pub join_spent : View T N
   join_spent = Spent
+
+  -- while a seat is held, what has its place knows nothing
+  abbrev pub rest_left : View T N → View T N
+  rest_left v = v
+
+  abbrev pub rest_right : View T N → View T N
+  rest_right v = Spent
+
+  -- the first seat that is back goes on
+  abbrev pub seat_again : Key T → KeeperMemo N → Option (SeatMemo N) → View T N
+  seat_again key k None = Spent
+  seat_again key k (Some memo) = Sits key (resumed k.offered memo)
+
+  abbrev pub release_left : View T N → View T N
+  release_left v = on_keeper (λ k. goes_on k (first_back k.back)) v
+
+  abbrev pub release_right : View T N → View T N
+  release_right (Keeps key k) = seat_again key k (first_back k.back)
+  release_right _ = Spent
 
 -- what is known, and the slots in hand
 abbrev pub Known : Type 0 → Type 0 → Type 0 → Type 0 → Type 0

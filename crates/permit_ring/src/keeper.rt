@@ -1,7 +1,7 @@
 //! The one who takes what was finished and offers positions again.
 ghost use Rattle.std.specs.Prelude.{◌≡◌, ◌≢◌, ℕ, ◌+◌, ◌-◌, ◌%◌, ◌^◌, ◌<◌, ◌≤◌, ◌++◌, IsTrue, IsFalse, None, length, take, drop, sum, IfOk, IfErr};
 ghost use Rattle.ring_core.specs.{all_free as all_free_word, field_of};
-ghost use Rattle.permit_ring.specs.{ReapTells, TriesTell, OfferTells, vacant_after, AreAllBack, IsAllReaped, IsSettled, AreAllSwept, swept_of, Empty, saw_mark, reads, offers_all, misses, sweeps, welcomes};
+ghost use Rattle.permit_ring.specs.{ReapTells, TriesTell, OfferTells, vacant_after, AreAllBack, IsAllReaped, IsSettled, AreAllSwept, swept_of, Empty, saw_mark, reads, offers_all, misses, sweeps, welcomes, ended, Releases};
 ghost use Rattle.atomic_table.specs.Table.{step};
 ghost use mathlib.Core.Option.{none};
 
@@ -10,7 +10,7 @@ use crate::freight::Freight;
 use crate::memo::Slot;
 use crate::ring::{LOSSES, MARKS, PERMITS, Place, Ring, all_free};
 use crate::seat::Seat;
-use crate::told::{Lives, Offers, ReadsWord, SeesMark, Sweeps};
+use crate::told::{GoesOn, Lives, Offers, ReadsWord, Rests, SeesMark, Sweeps};
 use atomic_table::Seat as Token;
 use ring_core::PermitWord;
 
@@ -34,7 +34,7 @@ pub struct Keeper<F: Freight> {
 }
 
 impl<F: Freight> Keeper<F> {
-    ghost use Rattle.permit_ring.specs.Seats.{IsKeeperOf, IsSeatOf, keeper_memo, seat_memo, seat_ticket, vacant_of, filled_of, ring_positions, ring_seats, ring_terms};
+    ghost use Rattle.permit_ring.specs.Seats.{IsHeldAs, IsNextHeld, IsKeeperOf, IsSeatOf, keeper_memo, seat_memo, seat_ticket, vacant_of, filled_of, ring_positions, ring_seats, ring_terms};
 
     // The keeper of a ring whose positions are all free.
     pub(crate) fn of(place: Place<F>, positions: u16) -> Keeper<F>
@@ -238,6 +238,38 @@ impl<F: Freight> Keeper<F> {
     {
         let words = &ring.table.shared;
         words.join_seat::<Lives>(&mut self.place, seat.into_place());
+    }
+
+    /// Takes a seat back for a while. Whoever has it keeps it, and can do nothing by it until it is released.
+    /// Steps: two loads. By: `told` (`welcomes`); no loop.
+    pub fn hold(&mut self, ring: &Ring<F>, seat: &mut Seat<F>)
+        requires mine { IsKeeperOf F.admits_offered ring.now self.old }
+        requires seat { IsSeatOf F.admits_offered ring.now seat.old }
+        requires idle { seat_ticket seat.old ≡ None }
+        ensures mine { IsKeeperOf F.admits_offered ring.now self.new }
+        ensures held { IsHeldAs (ended (seat_memo seat.old)) seat.new }
+        ensures told { keeper_memo self.new ≡ welcomes (seat_memo seat.old) (keeper_memo self.old) }
+        ensures counts { (vacant_of self.new ≡ vacant_of self.old) × (filled_of self.new ≡ filled_of self.old) }
+    {
+        let words = &ring.table.shared;
+        let blank = words.split_seat::<Rests>(&mut self.place);
+        let place = seat.replace_place(blank);
+        words.join_seat::<Lives>(&mut self.place, place);
+    }
+
+    /// Releases the first seat that is held: it goes on with its next call, and knows how many positions were offered.
+    /// Steps: one load. By: `told` (`Releases`); no loop.
+    pub fn release(&mut self, ring: &Ring<F>, seat: &mut Seat<F>)
+        requires mine { IsKeeperOf F.admits_offered ring.now self.old }
+        requires held { IsNextHeld (keeper_memo self.old) seat.old }
+        ensures mine { IsKeeperOf F.admits_offered ring.now self.new }
+        ensures seat { IsSeatOf F.admits_offered ring.now seat.new }
+        ensures idle { seat_ticket seat.new ≡ None }
+        ensures told { Releases (keeper_memo self.old) (keeper_memo self.new) (seat_memo seat.new) }
+        ensures counts { (vacant_of self.new ≡ vacant_of self.old) × (filled_of self.new ≡ filled_of self.old) }
+    {
+        let place = ring.table.shared.split_seat::<GoesOn>(&mut self.place);
+        seat.replace_place(place);
     }
 }
 

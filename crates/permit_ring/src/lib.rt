@@ -30,7 +30,7 @@ pub use laws::{
     words_show_the_machine,
 };
 pub use making::{Made, make};
-pub use memo::{KeeperMemo, Key, Move, Outcome, SeatMemo, Slot, View};
+pub use memo::{KeeperMemo, Key, Move, Outcome, Rest, SeatMemo, Slot, View};
 pub use ring::Ring;
 pub use seat::Seat;
 pub use sharing::parts_may_be_shared;

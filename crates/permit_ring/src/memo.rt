@@ -33,12 +33,21 @@ pub enum Outcome<N> {
     Got(u64, N),
 }
 
-/// What a seat knows: its number, itself as the machine sees it, its decided calls and its moves.
+/// A rest of a seat, at which it was held by the keeper and then went on.
+pub struct Rest {
+    /// How many calls it had made.
+    pub calls: u64,
+    /// How many positions had been offered.
+    pub offered: u64,
+}
+
+/// What a seat knows: its number, itself as the machine sees it, its decided calls, its moves and its rests.
 pub struct SeatMemo<N> {
     pub number: u8,
     pub view: SeatView,
     pub log: LinkedList<Outcome<N>>,
     pub moves: LinkedList<Move>,
+    pub rests: LinkedList<Rest>,
 }
 
 /// What the keeper knows.

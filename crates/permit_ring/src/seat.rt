@@ -10,6 +10,7 @@ use crate::ring::{LOSSES, MARKS, PERMITS, Place, Ring};
 use crate::told::{ClaimsTicket, Finishes, MarksLoss, SeesWord};
 use ids_types::Ticket;
 use ring_core::PermitWord;
+use std::mem;
 
 // What a claim adds to the permit word: one claim more, and one free position less.
 const ONE_CLAIM: u64 = 65535;
@@ -152,6 +153,14 @@ impl<F: Freight> Seat<F> {
             calls: 0,
             held: None,
         }
+    }
+
+    // Puts another token into the seat, and gives the one that it had.
+    pub(crate) fn replace_place(&mut self, place: Place<F>) -> Place<F>
+        ensures place { result ≡ self.old.place }
+        ensures same { self.new ≡ record self.old { place = place } }
+    {
+        mem::replace(&mut self.place, place)
     }
 
     pub(crate) fn into_place(self) -> Place<F>

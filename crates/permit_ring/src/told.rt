@@ -1,5 +1,5 @@
 //! What each atomic step tells its seat or the keeper. These types are for the proofs alone.
-ghost use Rattle.permit_ring.specs.Told.{saw_word, claimed_word, finished_value, marked_loss, saw_mark, read_word, tried_offer, swept_loss, split_left, split_right, join_both, join_spent};
+ghost use Rattle.permit_ring.specs.Told.{saw_word, claimed_word, finished_value, marked_loss, saw_mark, read_word, tried_offer, swept_loss, split_left, split_right, rest_left, rest_right, release_left, release_right, join_both, join_spent};
 
 use crate::freight::Freight;
 use crate::memo::{Slot, View};
@@ -75,6 +75,24 @@ impl<T, N> Split<View<T, N>> for Lives {
     ghost left = { split_left };
 
     ghost right = { split_right };
+}
+
+/// What is left in the place of a seat that is held.
+pub struct Rests;
+
+impl<T, N> Split<View<T, N>> for Rests {
+    ghost left = { rest_left };
+
+    ghost right = { rest_right };
+}
+
+/// How the keeper releases a seat that it holds.
+pub struct GoesOn;
+
+impl<T, N> Split<View<T, N>> for GoesOn {
+    ghost left = { release_left };
+
+    ghost right = { release_right };
 }
 
 impl<T, N> Join<View<T, N>> for Lives {

@@ -1,6 +1,6 @@
 -- The names of other crates that several files of this crate cite.
 pub use Rattle.atomic_table.proofs.Lists.{at_map, at_index, at_set}
-pub use Rattle.permit_ring.proofs.{some_there, got_from, taken_in, more_fronts, at_length, new_ordered, untouched, at_end, gave_of, offer_keeps_order}
+pub use Rattle.permit_ring.proofs.{some_there, got_from, taken_in, more_fronts, at_length, new_ordered, untouched, at_end, gave_of, offer_keeps_order, rested_ordered}
 pub use Rattle.permit_ring.specs.{IsSettled, StandsIn, taken_by, waits, ended, ticket_in, AreAllBack}
 pub use Rattle.std.proofs.Common.{◌≡◌, ℕ, zero, suc, ◌+◌, List, [], ◌∷◌, map, length, Option, Some, None, refl, sym, ap, ◌∙◌, eq-zero-or-pos, inl, inr, arith, ◌≤◌, replicate, All, slice_index_or, ◌++◌, Result, Ok, Err, rules}
 pub use Rattle.std.proofs.lemmas.Bool.{false≢true}

@@ -3,7 +3,7 @@ use Rattle.std.specs.Prelude.{◌≡◌, ℕ, suc, ◌<◌, ◌==◌, if◌then�
 use mathlib.Core.Option.{some}
 use lib.ListN.{get_elem?}
 use Rattle.ids_types.specs.Fates.{AreAllDecided}
-use Rattle.permit_ring.specs.{fate_of, got_of, HaveOneOrder, StandsIn}
+use Rattle.permit_ring.specs.{SeesRests, fate_of, got_of, HaveOneOrder, StandsIn}
 use Rattle.report_queue.specs.Names.{KeeperMemo, SeatMemo, Item}
 use Rattle.report_queue.specs.Items.{NamesItsCalls}
 
@@ -19,6 +19,8 @@ module _ {N : Type 0} where
     pub calls_are : caller.view.calls ≡ length caller.log
     pub names : NamesItsCalls i caller.log
     pub decided : AreAllDecided (length items) (StandsIn fronts) (map fate_of caller.log)
+    -- what was lost after a rest saw what had been offered by then
+    pub sees : SeesRests caller.rests caller.log
     -- the items taken of it are those that its calls got, under the same tickets, in the order of its calls
     pub accepted : got_of caller.log ≡ items_of i 0 items
 

@@ -3,7 +3,7 @@ use Rattle.std.specs.Prelude.{◌≡◌, ℕ, ◌<◌, ◌≤◌, ◌^◌, lengt
 use mathlib.Core.Option.{some}
 use lib.ListN.{get_elem?}
 use Rattle.report_queue.specs.Names.{Ticket, KeeperMemo, SeatMemo, Item, Queue, QueueSeat, Taker}
-use Rattle.permit_ring.specs.{IsOrdered, IsKeeperOf, IsSeatOf, filled_of, keeper_memo, ring_positions, ring_seats, ring_terms, seat_calls, seat_memo, seat_number, seat_ticket, vacant_of}
+use Rattle.permit_ring.specs.{IsOrdered, IsHeldAs, IsKeeperOf, IsSeatOf, filled_of, first_back, keeper_memo, ring_positions, ring_seats, ring_terms, seat_calls, seat_memo, seat_number, seat_ticket, vacant_of}
 use Rattle.report_queue.specs.Items.{admits_all, NamesItsCalls}
 
 module _ {P L T N : Type 0} where
@@ -52,6 +52,20 @@ module _ {P L T N : Type 0} where
   -- a caller of this queue that holds no ticket
   abbrev pub IsIdle : Queue P L T N → QueueSeat P L T N → Type 0
   IsIdle queue seat = IsCallerOf queue seat × (ticket_of seat ≡ None)
+
+  -- the caller is held by the taker, which knows of it what the memo says
+  pub record IsHeldCaller (memo : SeatMemo (Item N)) (seat : QueueSeat P L T N) : Type 0 where
+    pub held : IsHeldAs memo seat.seat
+    pub below_32 : memo.number < 32
+    pub calls_within : memo.view.calls ≤ 2 ^ 40
+    pub in_order : IsOrdered memo
+    pub names : NamesItsCalls memo.number memo.log
+
+  -- and is the first that the taker releases
+  pub record IsNextCaller (k : KeeperMemo (Item N)) (seat : QueueSeat P L T N) : Type 0 where
+    pub memo : SeatMemo (Item N)
+    pub is_first : first_back k.back ≡ Some memo
+    pub held : IsHeldCaller memo seat
 
   -- the taker is this queue's, between two calls
   pub record IsTakerOf (queue : Queue P L T N) (taker : Taker P L T N) : Type 0 where

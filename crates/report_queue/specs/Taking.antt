@@ -1,11 +1,11 @@
 -- What the taker's calls do, step by step, and what they leave.
 use Rattle.std.specs.Prelude.{◌≡◌, ℕ, ◌≤◌, ◌^◌, length, sum, Result, IfOk, IfErr}
 use Rattle.permit_ring.specs.declared.answer.Unready.{Unready}
-use Rattle.permit_ring.specs.{AreAllBack, AreAllSwept, OffersAll, ReapTells, sweeps, vacant_after, welcomes}
+use Rattle.permit_ring.specs.{AreAllBack, AreAllSwept, OffersAll, ReapTells, Releases, sweeps, vacant_after, welcomes}
 use Rattle.report_queue.specs.Closing.{IsAllTaken}
 use Rattle.report_queue.specs.Items.{admits_item, item_note}
 use Rattle.report_queue.specs.Names.{Item, Queue, QueueSeat, Taker}
-use Rattle.report_queue.specs.Parts.{IsTakerOf, caller_memo, queue_positions, queue_seats, queue_terms, taker_memo, to_give_back}
+use Rattle.report_queue.specs.Parts.{IsIdle, IsTakerOf, caller_memo, queue_positions, queue_seats, queue_terms, taker_memo, to_give_back}
 
 module _ {P L T N : Type 0} (queue : Queue P L T N) (old : Taker P L T N) where
   -- the item of the next ticket is taken, or the mark that was read is not that ticket's and nothing is taken
@@ -38,4 +38,11 @@ module _ {P L T N : Type 0} (queue : Queue P L T N) (old : Taker P L T N) where
   pub record Welcomes (seat : QueueSeat P L T N) (new : Taker P L T N) : Type 0 where
     pub mine : IsTakerOf queue new
     pub told : taker_memo new ≡ welcomes (caller_memo seat) (taker_memo old)
+    pub counts : to_give_back new ≡ to_give_back old
+
+  -- the first caller that is held goes on
+  pub record GoesOn (seat : QueueSeat P L T N) (new : Taker P L T N) : Type 0 where
+    pub mine : IsTakerOf queue new
+    pub caller : IsIdle queue seat
+    pub told : Releases (taker_memo old) (taker_memo new) (caller_memo seat)
     pub counts : to_give_back new ≡ to_give_back old

@@ -1,6 +1,6 @@
 //! The one who takes the items.
 ghost use Rattle.std.specs.Prelude.{◌≡◌, None, is_some, true, OnOk, OnErr};
-ghost use Rattle.report_queue.specs.{GivesBack, Sweeps, Takes, Welcomes};
+ghost use Rattle.report_queue.specs.{GivesBack, GoesOn, Sweeps, Takes, Welcomes, ended};
 
 use crate::cargo::{Cargo, Item, Items};
 use crate::seat::{Queue, QueueSeat};
@@ -13,7 +13,7 @@ pub struct Taker<P: Cargo> {
 }
 
 impl<P: Cargo> Taker<P> {
-    ghost use Rattle.report_queue.specs.Parts.{IsCallerOf, IsTakerOf, ticket_of};
+    ghost use Rattle.report_queue.specs.Parts.{IsCallerOf, IsHeldCaller, IsNextCaller, IsTakerOf, caller_memo, taker_memo, ticket_of};
 
     /// Takes the item of the next ticket, and leaves a spent load in its place. `Err` comes exactly where
     /// the mark that was read at this call's step is not that ticket's, and then nothing is taken. Once all
@@ -73,5 +73,27 @@ impl<P: Cargo> Taker<P> {
         ensures { Welcomes queue.now self.old seat self.new }
     {
         self.keeper.welcome(&queue.ring, seat.seat);
+    }
+
+    /// Takes a caller back for a while: whoever has it keeps it, and can do nothing by it until it is released.
+    /// Steps: two loads. By: `told` (`Welcomes`); no loop.
+    pub fn hold(&mut self, queue: &Queue<P>, seat: &mut QueueSeat<P>)
+        requires mine { IsTakerOf queue.now self.old }
+        requires seat { IsCallerOf queue.now seat.old }
+        requires idle { ticket_of seat.old ≡ None }
+        ensures told { Welcomes queue.now self.old seat.old self.new }
+        ensures held { IsHeldCaller (ended (caller_memo seat.old)) seat.new }
+    {
+        self.keeper.hold(&queue.ring, &mut seat.seat);
+    }
+
+    /// Releases the first caller that is held: it goes on with its next call, and knows how many positions were offered.
+    /// Steps: one load. By: `GoesOn` (`told`: `Releases`); no loop.
+    pub fn release(&mut self, queue: &Queue<P>, seat: &mut QueueSeat<P>)
+        requires mine { IsTakerOf queue.now self.old }
+        requires held { IsNextCaller (taker_memo self.old) seat.old }
+        ensures { GoesOn queue.now self.old seat.new self.new }
+    {
+        self.keeper.release(&queue.ring, &mut seat.seat);
     }
 }
