@@ -2,6 +2,7 @@ pub mod HandLemmas
 pub mod Holding
 pub mod KeeperSteps
 pub mod ListLemmas
+pub mod LiveLaws
 pub mod Lives
 pub mod LogLemmas
 pub mod Names

@@ -18,7 +18,7 @@ AreFrom limit first moves = (p : ℕ) (v : Move) → get_elem? moves p ≡ some 
     → ticket_at limit v ≡ first + tickets_got limit (take p moves)
 
 -- moves from a ring on
-all_counted : (m now : Machine) (moves : List Move) → IsRing m → Leads m moves now → AreFrom m.limit m.word.claimed moves
+pub all_counted : (m now : Machine) (moves : List Move) → IsRing m → Leads m moves now → AreFrom m.limit m.word.claimed moves
     × (now.word.claimed ≡ m.word.claimed + tickets_got m.limit moves)
 all_counted m now [] r led = (λ p v at gets. absurd (grind arith), grind arith)
 all_counted m now (v ∷ vs) r led =

@@ -10,7 +10,7 @@ leads_on start m now [] step led e = grind (arith, led, step_of_next m now step 
 leads_on start m now (v ∷ vs) step led e = (led.0, led.1, leads_on (after start v.step) m now vs step led.2 e)
 
 -- moves lead from a ring to a ring, of its sizes
-led_keeps : (start m : Machine) (moves : List Move) → IsRing start → Leads start moves m
+pub led_keeps : (start m : Machine) (moves : List Move) → IsRing start → Leads start moves m
     → IsRing m × HasSizes start.positions start.limit m
 led_keeps start m [] r led = (subst IsRing (sym led) r, same_sizes start m led)
 led_keeps start m (v ∷ vs) r led =

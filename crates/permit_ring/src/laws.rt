@@ -5,6 +5,8 @@ ghost use mathlib.Core.Option.{some};
 ghost use lib.ListN.{get_elem?};
 ghost use Rattle.permit_ring.specs.{SeatMemo, Slot, Key, KeeperMemo, Sits, Lost, Got, HasOnePlace, IsOneSeats, IsMemoThere, IsInOrder, IsNotedAs, IsAdmittedSlot, ShowsRing, IsOrdered, RunningRing, StandsIn, HasFinished, HasOffered, IsOut, OfferTells, AreAllBack, IsAllReaped, IsSettled, AreCounted, AreInOrder, tickets_got, by_seat, by_keeper};
 ghost use Rattle.ring_core.specs.{seat_at, Holds};
+ghost use Rattle.std.specs.Prelude.{true, false};
+ghost use Rattle.permit_ring.specs.{Move, finds_none, finds_unready, state_before, HasGivenBack, left_and_since, AllTakenOrHeld};
 
 use crate::freight::Freight;
 
@@ -125,4 +127,22 @@ pub fn notes_are_admitted<F: Freight>()
     ghost r: { RunningRing F.note F.admits_offered F.admits_note }
     ensures logs { (memo : SeatMemo F.Note) → IsMemoThere r.table.views memo → (j t : ℕ) (x : F.Note) → get_elem? memo.log j ≡ some (Got t x) → F.admits_note r.key.terms x }
     ensures keeper { (t : ℕ) (x : F.Note) → get_elem? r.rule.keeper.notes t ≡ some x → F.admits_note r.key.terms x }
+{}
+
+/// A call is lost only where the tickets that were left at move z, and those that were claimed since, are as many as the
+/// positions. Where they are fewer, no look and no claim finds none free. It holds from any move z on, if before p all that
+/// was taken before z had been offered again, and no more. So for z take the last read of a mark of the last turn that
+/// gave back before p. Before the first such turn take 0, where nothing was left.
+pub fn what_a_lost_call_means<F: Freight>()
+    ghost r: { RunningRing F.note F.admits_offered F.admits_note }
+    ensures lost { (z p : ℕ) (call : Move) → z ≤ p → get_elem? r.rule.moves p ≡ some call → HasGivenBack r.key r.rule.moves z p → finds_none r.key.limit call ≡ true → left_and_since r.key r.rule.moves z p ≡ r.key.positions }
+    ensures none { (z p : ℕ) (call : Move) → z ≤ p → get_elem? r.rule.moves p ≡ some call → HasGivenBack r.key r.rule.moves z p → left_and_since r.key r.rule.moves z p < r.key.positions → finds_none r.key.limit call ≡ false }
+{}
+
+/// Where a read of a mark took nothing, all claimed tickets had been taken, or a seat held the next one. Each other
+/// ticket that was left then is greater. So what was finished before the last read of a turn was taken by then, unless a
+/// lesser ticket was not finished.
+pub fn what_a_turn_leaves<F: Freight>()
+    ghost r: { RunningRing F.note F.admits_offered F.admits_note }
+    ensures { (z : ℕ) (see : Move) → get_elem? r.rule.moves z ≡ some see → finds_unready (state_before r.key r.rule.moves z) see ≡ true → AllTakenOrHeld (state_before r.key r.rule.moves z) }
 {}

@@ -26,8 +26,8 @@ pub use laws::{
     each_memo_has_its_moves, each_memo_shows_its_seat, each_note_is_its_tickets,
     each_number_is_one_seats, each_seat_has_one_port, each_ticket_has_one_place,
     logged_tickets_are_claimed, logs_are_in_order, notes_are_admitted, slots_follow_their_tickets,
-    tickets_are_in_the_order_of_claims, values_at_home_are_admitted, what_is_settled_is_reaped,
-    words_show_the_machine,
+    tickets_are_in_the_order_of_claims, values_at_home_are_admitted, what_a_lost_call_means,
+    what_a_turn_leaves, what_is_settled_is_reaped, words_show_the_machine,
 };
 pub use making::{Made, make};
 pub use memo::{KeeperMemo, Key, Move, Outcome, Rest, SeatMemo, Slot, View};
