@@ -13,6 +13,7 @@ pub mod RuleLaws
 pub mod SeatSteps
 pub mod Settled
 pub mod States
+mod WorkedLive
 pub use Rattle.permit_ring.proofs.HandLemmas.{in_front, none_filled, ready_is, hand_reaped, hand_offered, turned_more, hand_length, turned_to, vacant_fit, one_more_filled}
 pub use Rattle.permit_ring.proofs.Holding.{blanks_allowed, releases_allowed, first_at, rested_ordered}
 pub use Rattle.permit_ring.proofs.KeeperSteps.{see_ready, offer_ready, read_ready, sweep_ready}
