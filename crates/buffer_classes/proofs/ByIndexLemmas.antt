@@ -16,6 +16,12 @@ module _ {A : Type 0} {R : ℕ → A → A → Type 0} {i : ℕ} {olds : List A}
   pub none_from : length olds ≤ i → AllOf (From R i) olds olds
   none_from long = grind (arith, at_length olds)
 
+  -- what stands at the next place stood there
+  pub still : {mids : List A} (mid : A) → AllOf (Below R i) olds mids → get_elem? mids i ≡ some mid → get_elem? olds i ≡ some mid
+  still {mids} mid b here =
+      let old = there olds i (omega (arith, at_length mids i mid here, b.as_many)) in
+      grind (arith, old, b.each i old.0 mid, here)
+
   -- all is
   pub all_below : {news : List A} → AllOf (Below R i) olds news → length olds ≤ i → AllOf R olds news
   all_below b past = grind (arith, b, at_length olds)

@@ -6,7 +6,7 @@ pub use Rattle.atomic_table.proofs.Lists.{at_set, at_index, at_last, at_longer, 
 pub use Rattle.ids_types.specs.declared.class_spec.ClassSpec.{ClassSpec}
 pub use Rattle.permit_ring.proofs.ListLemmas.{at_length, there, at_end}
 pub use Rattle.permit_ring.specs.{seat_memo, reaps_all, OffersAll, IsNewSeat, new_memo, filled_of, AllAdmitted, ring_seats, ring_terms, seat_calls, keeper_memo}
-pub use Rattle.buffer_classes.specs.{Asks, AsksClass, ClaimTells, asked, lost_at, claimant_of, claims_of, log_of, memo_at, steps_of, Class, ClassSeat, Lost, Got, Outcome, SeatMemo, IsHisSeat, Buffer, IsBufferOf, RiseFrom, class_sizes, first_fitting, IsClaimSeatOf, IsClassSeat, AreGiversOf, IsBufferIn, givers_of, AllOf, AreClasses, GetsSeat, IsNewClaimant, spec_sizes, GaveBack, class_count, Begins, Offers, Puts, AreBuffersIn, Takes, Welcomed, class_terms, IsGiverOf, filled_count, vacant_count, giver_memo, FillsLate, AreNewClasses, GetsOne, IsNewClass, AreUnseated}
+pub use Rattle.buffer_classes.specs.{Asks, AsksClass, ClaimTells, asked, lost_at, claimant_of, claims_of, log_of, memo_at, steps_of, Class, ClassSeat, Lost, Got, Outcome, SeatMemo, IsHisSeat, Buffer, IsBufferOf, RiseFrom, class_sizes, first_fitting, IsClaimSeatOf, IsClassSeat, AreGiversOf, IsBufferIn, givers_of, AllOf, AreClasses, GetsSeat, IsNewClaimant, spec_sizes, GaveBack, class_count, Begins, Offers, Puts, AreBuffersIn, Takes, Welcomed, Freed, class_terms, IsGiverOf, filled_count, vacant_count, giver_memo, FillsLate, AreNewClasses, GetsOne, IsNewClass, AreUnseated}
 pub use Rattle.buffer_classes.specs.Names.{Classes}
 pub use Rattle.buffer_classes.specs.declared.giver.Giver.{Giver}
 pub use Rattle.buffer_classes.specs.declared.givers.Givers.{Givers}
