@@ -3,6 +3,7 @@ pub mod AskLemmas
 pub mod MakingLemmas
 pub mod Names
 pub mod PassLemmas
+pub mod ReleaseLemmas
 pub mod TiedLemmas
 pub mod WelcomeLemmas
 pub use Rattle.report_api.proofs.AnswerLemmas.{OneCall, fitting_some, lost_call, lost_event, put_call, put_without, put_tells}

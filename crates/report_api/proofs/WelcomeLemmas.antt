@@ -1,6 +1,10 @@
 -- A pass that comes back with its claimant.
-use Rattle.report_api.proofs.Names.{◌≡◌, ℕ, ◌<◌, ◌≢◌, ◌⊎◌, Option, Some, List, length, slice_set, refl, inl, inr, arith, length-set, at_set, set_here, set_else, at_length, there, seat_memo, ended, Giver, AllOf, Welcomed, giver_memo, log_of, below_or, nothing_past, AreTied, log_at, PassMemo, IsPassOf, pass_memo, sizes_of, Pass, Shared, get_elem?, some}
+use Rattle.report_api.proofs.Names.{◌≡◌, ℕ, ◌<◌, ◌≢◌, ◌⊎◌, ◌≤◌, Option, Some, List, [], length, length-map, slice_set, refl, inl, inr, arith, length-set, at_set, set_here, set_else, at_length, there, seat_memo, ended, Giver, AllOf, Welcomed, giver_memo, log_of, below_or, nothing_past, AreTied, log_at, PassMemo, IsPassOf, pass_memo, sizes_of, Pass, Shared, get_elem?, some}
 use Rattle.buffer_classes.specs.Names as classes
+use Rattle.buffer_classes.specs.declared.class.Class.{Class}
+use Rattle.buffer_classes.specs.{IsHeldClaimant, memo_at}
+use Rattle.report_queue.specs.{IsHeldCaller}
+use Rattle.report_api.specs.{IsHeldPass}
 
 module _ {shared : Shared} {pass : Pass} {back : List (Option PassMemo)} {olds news : List Giver} (its : IsPassOf shared pass)
     (as_many : length olds ≡ length shared.classes.classes.items)
@@ -60,3 +64,13 @@ module _ {shared : Shared} {pass : Pass} {back : List (Option PassMemo)} {olds n
     follows = λ i c other e. grind (arith, stands c other e, log_there i, log_else i c, its.at.asks i, tied.follows i c other);
     missing = λ c other e. grind (arith, stands c other e, its.at.contexts_are, tied.missing c other);
   }
+
+-- a pass whose seats are held is held
+pub held_now : {shared : Shared} {pass : Pass} → IsPassOf shared pass → (now : Pass) → IsHeldCaller (ended (pass_memo pass)) now.seat
+    → IsHeldClaimant shared.classes (λ i. ended (memo_at pass.claimant i)) now.claimant
+    → (now.claimant.number ≡ pass.claimant.number) × (now.claimant.claims ≡ pass.claimant.claims) → now.spare ≡ pass.spare
+    → IsHeldPass shared (ended (pass_memo pass)) (λ i. ended (memo_at pass.claimant i)) now
+held_now {shared} {pass} its now caller claimant same spare =
+    let past : (i : ℕ) → length (sizes_of shared) ≤ i → log_of pass.claimant i ≡ [] =
+    λ i low. grind (arith, nothing_past pass.claimant.seats.items i, its.at.claimant.all, length-map shared.classes.classes.items (λ (class : Class). class.size), low) in
+    grind (arith, its, caller, claimant, same, spare, past)

@@ -5,15 +5,16 @@ use mathlib.Core.Option.{some, none}
 use lib.ListN.{get_elem?}
 use Rattle.ids_types.specs.Fates.{Fate}
 use Rattle.history_spec.specs.Follows.{Follows}
-use Rattle.permit_ring.specs.{IsSettled, fate_of}
+use Rattle.permit_ring.specs.{IsSettled, fate_of, first_back}
 use Rattle.buffer_classes.specs.declared.giver.Giver.{Giver}
 use Rattle.buffer_classes.specs.{AreGiversOf, givers_of, giver_memo}
 use Rattle.buffer_classes.specs.Names as classes
 use Rattle.report_queue.specs.Parts as queue
 use Rattle.report_queue.specs.{IsTakerOf, taker_memo}
 use Rattle.report_api.specs.Names.{DeskMemo, PassMemo}
-use Rattle.report_api.specs.Passes.{IsShared, calls_in, lost_contexts, missing_in, sizes_of}
+use Rattle.report_api.specs.Passes.{IsHeldPass, IsShared, calls_in, lost_contexts, missing_in, sizes_of}
 use Rattle.report_api.specs.declared.desk.Desk.{Desk}
+use Rattle.report_api.specs.declared.pass.Pass.{Pass}
 use Rattle.report_api.specs.declared.shared.Shared.{Shared}
 
 -- what the desk knows of the report ring
@@ -58,3 +59,11 @@ pub record IsDeskOf (shared : Shared) (desk : Desk) : Type 0 where
 -- the ring of each class is settled
 abbrev pub EachSettled : Desk → Type 0
 EachSettled desk = (i : ℕ) (giver : Giver) → get_elem? (givers_of desk.givers) i ≡ some giver → IsSettled (giver_memo giver)
+
+-- the pass is held, and the first that the desk releases
+pub record IsNextPass (shared : Shared) (desk : Desk) (pass : Pass) : Type 0 where
+  pub memo : PassMemo
+  pub memos : ℕ → classes.SeatMemo
+  pub is_first : first_back (desk_memo desk).back ≡ Some memo
+  pub firsts : (i : ℕ) (giver : Giver) → get_elem? (givers_of desk.givers) i ≡ some giver → first_back (giver_memo giver).back ≡ Some (memos i)
+  pub held : IsHeldPass shared memo memos pass

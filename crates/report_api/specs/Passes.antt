@@ -3,10 +3,11 @@ use Rattle.std.specs.Prelude.{◌≡◌, ℕ, ◌+◌, ◌≤◌, Option, Some, 
 use Rattle.ids_types.specs.{act_by, Fate}
 use Rattle.ids_types.specs.declared.entry.Act.{Act as ActOver}
 use Rattle.history_spec.specs.Follows.{Calls, Follows}
-use Rattle.buffer_classes.specs.{class_sizes, IsClaimSeatOf, claimant_of, claims_of, log_of}
+use Rattle.buffer_classes.specs.{class_sizes, IsClaimSeatOf, IsHeldClaimant, claimant_of, claims_of, log_of}
 use Rattle.buffer_classes.specs.Seats as classes
+use Rattle.buffer_classes.specs.Names.{SeatMemo as ClassMemo}
 use Rattle.permit_ring.specs.Logs.{fate_of}
-use Rattle.report_queue.specs.Parts.{IsCallerOf, caller_memo, caller_number, queue_terms, ticket_of}
+use Rattle.report_queue.specs.Parts.{IsCallerOf, IsHeldCaller, caller_memo, caller_number, queue_terms, ticket_of}
 use Rattle.report_api.specs.Names.{Act, Report, Missing, Outcome, PassMemo, Lost, Got}
 use Rattle.report_api.specs.Terms.{term_sizes}
 use Rattle.report_api.specs.declared.pass.Pass.{Pass}
@@ -82,3 +83,16 @@ pub record IsPassAt (shared : Shared) (pass : Pass) : Type 0 where
 pub record IsPassOf (shared : Shared) (pass : Pass) : Type 0 where
   pub at : IsPassAt shared pass
   pub is_idle : ticket_of pass.seat ≡ None
+
+-- the pass is held, and the memos are what is known of it at the report ring and at each class
+pub record IsHeldPass (shared : Shared) (memo : PassMemo) (memos : ℕ → ClassMemo) (pass : Pass) : Type 0 where
+  pub is_shared : IsShared shared
+  pub caller : IsHeldCaller memo pass.seat
+  pub claimant : IsHeldClaimant shared.classes memos pass.claimant
+  pub has_spare : is_some pass.spare ≡ true
+  pub number_is : claimant_of pass.claimant ≡ memo.number
+  pub asks : (i : ℕ) → Follows (length (sizes_of shared)) i (calls_in memo.log) (map fate_of (memos i).log)
+  pub none_past : (i : ℕ) → length (sizes_of shared) ≤ i → (memos i).log ≡ []
+  pub claims_within : claims_of pass.claimant ≤ length memo.log
+  pub events_within : lost_events memo ≤ length memo.log
+  pub contexts_are : lost_contexts memo ≡ missing_in memo.log

@@ -1,8 +1,8 @@
 //! Where the one who takes the reports sits.
 ghost use Rattle.std.specs.Prelude.{◌≡◌, ◌<◌, [], true, is_some, length, vec_capacity, IfOk};
-ghost use Rattle.buffer_classes.specs.{AllOf, AreBuffersIn, GaveBack, Welcomed, givers_of, late_of};
-ghost use Rattle.report_queue.specs.{AreAllBack, GivesBack, Sweeps, Takes, Welcomes};
-ghost use Rattle.report_api.specs.{EachSettled, IsDeskOf, desk_memo, IsPassOf, sizes_of, AdmitsAct, AdmitsItem};
+ghost use Rattle.buffer_classes.specs.{AllOf, AreBuffersIn, Freed, GaveBack, Welcomed, givers_of, late_of, memo_at};
+ghost use Rattle.report_queue.specs.{AreAllBack, GivesBack, GoesOn, Sweeps, Takes, Welcomes, ended};
+ghost use Rattle.report_api.specs.{EachSettled, IsDeskOf, desk_memo, pass_memo, IsHeldPass, IsNextPass, IsPassOf, sizes_of, AdmitsAct, AdmitsItem};
 
 use crate::pass::Pass;
 use crate::shared::{Reports, Shared};
@@ -112,5 +112,33 @@ impl Desk {
     {
         self.taker.welcome(&shared.queue, pass.seat);
         self.givers.welcome(&shared.classes, pass.claimant);
+    }
+
+    /// Takes a pass back for a while: whoever has it keeps it, and can make no call by it until it is released.
+    /// Steps: two loads, and two for each class, at most 4. By: `came` (`Welcomes`), `givers` (`Welcomed`).
+    pub fn hold(&mut self, shared: &Shared, pass: &mut Pass)
+        requires mine { IsDeskOf shared.now self.old }
+        requires pass { IsPassOf shared.now pass.old }
+        ensures mine { IsDeskOf shared.now self.new }
+        ensures came { Welcomes shared.now.queue self.old.taker pass.old.seat self.new.taker }
+        ensures givers { AllOf (Welcomed pass.old.claimant) (givers_of self.old.givers) (givers_of self.new.givers) }
+        ensures held { IsHeldPass shared.now (ended (pass_memo pass.old)) (λ i. ended (memo_at pass.old.claimant i)) pass.new }
+    {
+        self.taker.hold(&shared.queue, &mut pass.seat);
+        self.givers.hold(&shared.classes, &mut pass.claimant);
+    }
+
+    /// Releases the first pass that is held: it goes on with its next call, and knows how many positions were offered.
+    /// Steps: one load, and one for each class, at most 4. By: `told` (`GoesOn`: `Releases`), `givers` (`Freed`).
+    pub fn release(&mut self, shared: &Shared, pass: &mut Pass)
+        requires mine { IsDeskOf shared.now self.old }
+        requires held { IsNextPass shared.now self.old pass.old }
+        ensures mine { IsDeskOf shared.now self.new }
+        ensures pass { IsPassOf shared.now pass.new }
+        ensures told { GoesOn shared.now.queue self.old.taker pass.new.seat self.new.taker }
+        ensures givers { AllOf (Freed pass.new.claimant) (givers_of self.old.givers) (givers_of self.new.givers) }
+    {
+        self.taker.release(&shared.queue, &mut pass.seat);
+        self.givers.release(&shared.classes, &mut pass.claimant);
     }
 }
