@@ -154,6 +154,7 @@ module _ (closed : ClosedDesk) where
         rw (← found.2) (pass.0, item, pass.1, rw (its.whole.names got.0 t item got.1).1 pass.2, refl);
     merged = are_merged closed.config.ring closed.turns _ (map fates_in closed.passes) are_decided;
     one_order = one_order;
+    sees = λ caller pass at. (closed.all_taken.whole caller (ended pass) (rw closed.are_back (at_map came closed.passes caller pass at))).sees;
     contexts = legal_contexts closed.config closed.turns (calls_by closed.passes) (asks_back givers) (λ i. (settled_at i).0) record {
       follows = λ caller i. let its = knows caller in rw its.calls (its.follows i);
       settled = λ caller i. (settled_at i).1 caller;

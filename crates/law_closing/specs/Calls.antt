@@ -6,7 +6,7 @@ use Rattle.ids_types.specs.{Turn, entries_of, Fate}
 use Rattle.ids_config.specs.Parts.{Parts}
 use Rattle.history_spec.specs.{all_losses, Calls, entries_by, AreMerged, AreLegalContexts, entries_from}
 use Rattle.history_spec.specs.Names.{Entry, Loss}
-use Rattle.permit_ring.specs.{AreCounted, AreInOrder, Leads, by_seat}
+use Rattle.permit_ring.specs.{AreCounted, AreInOrder, Leads, SeesRests, by_seat}
 use Rattle.permit_ring.specs.declared.memo.Move.{Move}
 use Rattle.report_queue.specs.{got_of}
 use Rattle.report_queue.specs.declared.cargo.Item.{Item}
@@ -59,5 +59,7 @@ pub record HaveAllCalls (config : Parts) (passes : List PassMemo) (turns : List 
   -- the entries stand in the order in which their calls claimed their places: the one at place t is that of the call that got ticket t
   pub in_claim_order : (t : ℕ) (e : Entry (List ℕ)) → get_elem? (entries_of turns) t ≡ some e → IsOfTicket passes t e
   pub one_order : StandInOneOrder config.ring passes
+  -- a call that was lost after a rest of its pass found claimed what had been offered by then
+  pub sees : (caller : ℕ) (pass : PassMemo) → get_elem? passes caller ≡ some pass → SeesRests pass.rests pass.log
   -- the claims are legal, and so is each missing context
   pub contexts : AreLegalContexts config turns
