@@ -1,7 +1,8 @@
 -- A claim from class to class.
 use Rattle.buffer_classes.proofs.Names.{◌≡◌, ◌≢◌, ℕ, ◌+◌, ◌-◌, ◌*◌, ◌<◌, ◌≤◌, ◌^◌, List, [], ◌∷◌, ◌++◌, length, set, get_or, ◌∙◌, arith, inl, inr, All, append-nil, length_push, at_index, at_length, at_map, there, ring_seats, ring_terms, seat_calls, seat_memo, Buffer, IsBufferOf, AllOf, Asks, AsksClass, ClaimTells, asked, lost_at, RiseFrom, class_sizes, first_fitting, Class, ClassSeat, Lost, Got, Outcome, IsClaimSeatOf, IsClassSeat, claimant_of, claims_of, log_of, memo_at, steps_of, Classes, ClaimSeat, refl, nat_tests, some, get_elem?, sum_by-set, vec_capacity}
 use Rattle.std.proofs.lemmas.List.Elements.{All-push}
-use Rattle.buffer_classes.specs.Claims.{AreSmall, HoldsSoMany}
+use Rattle.buffer_classes.specs.Claims.{AreSmall, HoldsSoMany, finish_of}
+use Rattle.permit_ring.specs.Logs.{got_of}
 use Rattle.buffer_classes.specs.declared.seat.Claim.{Claim}
 use Rattle.buffer_classes.specs.declared.seat.Claim.TheVariants as answers
 use Rattle.buffer_classes.proofs.AskLemmas.{asked_past, asks_log, below_or, lost_more, lost_past, nothing_past}
@@ -27,7 +28,7 @@ pub record AskedTo (classes : Classes) (me : ClaimSeat) (bytes place : ℕ) (loo
   pub claims_are : now.claims ≡ me.claims + 1
   pub room_is : vec_capacity now.seats ≡ vec_capacity me.seats
   pub asked : AllOf (AskedSo classes (lost_at (first_fitting bytes (class_sizes classes)) looks)) me.seats.items now.seats.items
-  pub steps : steps_of now ≤ steps_of me + 3 * length looks
+  pub steps : steps_of now ≤ steps_of me + 2 * length looks
 
 module _ {classes : Classes} {me : ClaimSeat} (mine : IsClaimSeatOf classes me) (bytes : ℕ) where
   abbrev sizes : List ℕ
@@ -53,7 +54,7 @@ module _ {classes : Classes} {me : ClaimSeat} (mine : IsClaimSeatOf classes me) 
     counted : (claims_of now ≡ claims_of me + 1) × (claimant_of now ≡ claimant_of me);
     steps : (i : ℕ) (class : Class) → get_elem? classes.classes.items i ≡ some class
         → Asks (ring_seats class.ring) (memo_at me i) (asked first result i) (memo_at now i);
-    few_steps : steps_of now ≤ steps_of me + 3 * (length sizes - first);
+    few_steps : steps_of now ≤ steps_of me + 2 * (length sizes - first) + finish_of result;
     logs : (i : ℕ) → log_of now i ≡ log_of me i ++ asked first result i;
   }
 
@@ -66,7 +67,7 @@ module _ {classes : Classes} {me : ClaimSeat} (mine : IsClaimSeatOf classes me) 
         let low = at_length classes.classes.items i class at in
         grind (arith, low, there me.seats.items i, there now.seats.items i, mine.all, all.as_many, all.each i, at)
 
-    pub leaves : AreSmall result → steps_of now ≤ steps_of me + 3 * (length sizes - first) → Leaves result now
+    pub leaves : AreSmall result → steps_of now ≤ steps_of me + 2 * (length sizes - first) + finish_of result → Leaves result now
     leaves small few = record {
       mine = record {
         are = mine.are;
@@ -113,7 +114,7 @@ module _ {classes : Classes} {me : ClaimSeat} (mine : IsClaimSeatOf classes me) 
         (claims : after.claims ≡ now.claims) (room : vec_capacity after.seats ≡ vec_capacity now.seats) where
       asks_more : (call : Outcome) (done : ℕ → List Outcome) → AsksClass class seat (call ∷ []) new → done place ≡ call ∷ []
           → ((i : ℕ) → i ≢ place → done i ≡ lost_at first looks i)
-          → AllOf (AskedSo classes done) me.seats.items after.seats.items × (steps_of after ≤ steps_of me + 3 * length looks + 3)
+          → AllOf (AskedSo classes done) me.seats.items after.seats.items × (steps_of after ≤ steps_of me + 2 * length looks + 2 + length (got_of (call ∷ [])))
       asks_more call done did here others =
           let sums = sum_by-set (λ (s : ClassSeat). length (seat_memo s).moves) now.seats.items place new seat below in (
             rw seats (all_more place seat new seat_there l.asked (λ old was. grind (arith, was, class_there, not_yet, did, here))

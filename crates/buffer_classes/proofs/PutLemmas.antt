@@ -47,8 +47,8 @@ gave_back bufs i old begun put new b p o =
     let only = only_reaps reap.notes (giver_memo old) in
     let same : (put.number ≡ old.number) × (mid.made ≡ (giver_memo old).made) × (giver_memo put ≡ mid) × (mid.offered ≡ (giver_memo old).offered) =
     grind (arith, p.number_is, p.memo_is, fill.number_is, fill.memo_is, reap.number_is, reap.run, only) in
-    let told : OffersAll old.number (giver_memo old).made (filled_count put) mid (giver_memo new) = rw (← same.0, ← same.1, ← same.2) o.told in
-    let gave = gave_of old.number (giver_memo old).made (filled_count put) mid (giver_memo new) told in
+    let told : OffersAll (giver_memo old).made (filled_count put) mid (giver_memo new) = rw (← same.1, ← same.2) o.told in
+    let gave = gave_of (giver_memo old).made (filled_count put) mid (giver_memo new) told in
     record {
       notes = reap.notes;
       reaped = mid;
@@ -56,7 +56,7 @@ gave_back bufs i old begun put new b p o =
       few = reap.few;
       offered = filled_count put;
       told = told;
-      steps = omega (arith, gave.few_moves, end_steps reap.notes (giver_memo old) mid reap.run, reap.few);
+      steps = grind (arith, gave, end_steps reap.notes (giver_memo old) mid reap.run, reap, only, eq-zero-or-pos (filled_count put), length-append {A = Unit {0}});
       settled = λ back. elim (eq-zero-or-pos (filled_count put)) [
         | inl none ↦ rw (told.0 none) (reap.settled back)
         | inr any ↦ offer_keeps_settled _ _ (told.1 any).0 mid (giver_memo new) (told.1 any).2 (reap.settled back)

@@ -4,7 +4,7 @@ use mathlib.Core.Option.{some}
 use lib.ListN.{get_elem?}
 use Rattle.ids_types.specs.declared.names.Ticket.{Ticket}
 use Rattle.permit_ring.specs.Calls as ring
-use Rattle.permit_ring.specs.{ring_seats, seat_calls, seat_memo, seat_number, finishes}
+use Rattle.permit_ring.specs.{ring_seats, seat_calls, seat_memo, seat_number, finishes, got_of}
 use Rattle.buffer_classes.specs.Buffers.{Buffer, found_full}
 use Rattle.buffer_classes.specs.Names.{Class, ClassSeat, Lost, Got, Outcome, SeatMemo}
 use Rattle.buffer_classes.specs.Seats.{IsClassSeat}
@@ -37,14 +37,14 @@ Asks limit old (Lost g ∷ []) new = ring.ClaimTells limit old (Err (found_full 
 Asks limit old (Got t x ∷ []) new = (mid : SeatMemo) × ring.ClaimTells limit old (Ok (ticket t)) mid × (new ≡ finishes x mid)
 Asks limit old (call ∷ next ∷ calls) new = ⊥
 
--- the seat of a class made these calls: one, of at most three steps, or none
+-- the seat of a class made these calls, one or none: of at most a look and a claim, and a finish where it got a ticket
 pub record AsksClass (class : Class) (old : ClassSeat) (calls : List Outcome) (new : ClassSeat) : Type 0 where
   pub is_seat : IsClassSeat class new
   pub number_is : seat_number new ≡ seat_number old
   pub told : Asks (ring_seats class.ring) (seat_memo old) calls (seat_memo new)
   pub once : length calls ≤ 1
   pub calls_are : seat_calls new ≡ seat_calls old + length calls
-  pub few_steps : length (seat_memo new).moves ≤ length (seat_memo old).moves + 3 * length calls
+  pub few_steps : length (seat_memo new).moves ≤ length (seat_memo old).moves + 2 * length calls + length (got_of calls)
 
 -- what a call at one class gave, as the seat has it
 abbrev pub outcome_of : Result Buffer ℕ → List Outcome
@@ -55,6 +55,11 @@ outcome_of (Err claimed) = Lost claimed ∷ []
 abbrev pub ClaimTells : ℕ → List ℕ → Claim → Type 0
 ClaimTells first sizes (claims.Got buf skipped) = (first + length skipped ≡ buf.class) × (get_elem? sizes buf.class ≡ some buf.size)
 ClaimTells first sizes (claims.NoneFree looks) = first + length looks ≡ length sizes
+
+-- a claim that got a buffer made one step more than those that asked for it
+abbrev pub finish_of : Claim → ℕ
+finish_of (claims.Got buf skipped) = 1
+finish_of (claims.NoneFree looks) = 0
 
 -- no claim has a number above 2^45
 abbrev pub AreSmall : Claim → Type 0

@@ -1,5 +1,5 @@
 -- Those who give the buffers of all classes back.
-use Rattle.std.specs.Prelude.{◌≡◌, ℕ, ◌+◌, ◌*◌, ◌<◌, ◌≤◌, ◌==◌, List, ◌++◌, count_by, length, Some, vec_capacity}
+use Rattle.std.specs.Prelude.{◌≡◌, ℕ, ◌+◌, ◌<◌, ◌≤◌, ◌==◌, List, ◌++◌, count_by, length, Some, vec_capacity}
 use mathlib.Core.Option.{Option, some, none}
 use lib.ListN.{get_elem?}
 use Rattle.permit_ring.specs.{ReapsToEnd, OffersAll, AreAllBack, IsSettled, AllAdmitted, first_back}
@@ -62,9 +62,9 @@ pub record GaveBack (bufs : List Buffer) (i : ℕ) (old new : Giver) : Type 0 wh
   pub run : ReapsToEnd notes (giver_memo old) reaped
   pub few : length notes ≤ old.number
   pub offered : ℕ
-  pub told : OffersAll old.number (giver_memo old).made offered reaped (giver_memo new)
-  -- it reads a mark for each buffer that is reaped and one more, looks, and tries at most once more than there are positions and seats
-  pub steps : length (giver_memo new).moves ≤ length (giver_memo old).moves + 2 * old.number + (giver_memo old).made + 3
+  pub told : OffersAll (giver_memo old).made offered reaped (giver_memo new)
+  -- it reads a mark for each buffer that is reaped and one more, looks, and tries at most once for each other position and each seat
+  pub steps : length (giver_memo new).moves ≤ length (giver_memo old).moves + old.number + (giver_memo old).made + 2
   pub settled : AreAllBack (giver_memo old) → IsSettled (giver_memo new)
   pub account : Accounts (class_count i bufs) old new
   pub late : LateGoFirst offered old new

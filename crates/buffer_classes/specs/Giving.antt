@@ -53,6 +53,8 @@ pub record ReapsAll (old new : Giver) : Type 0 where
   pub notes : List (Unit {0})
   pub run : ReapsToEnd notes (giver_memo old) (giver_memo new)
   pub few : length notes ≤ old.number
+  -- no more was offered and not reaped before than the class has
+  pub out_few : (giver_memo old).offered ≤ length (giver_memo old).notes + old.number
   pub settled : AreAllBack (giver_memo old) → IsSettled (giver_memo new)
   pub filled_is : filled_count new ≡ filled_count old
   pub late_is : new.late ≡ old.late
@@ -87,7 +89,7 @@ pub record Puts (count : ℕ) (old new : Giver) : Type 0 where
 
 -- all that was filled is offered
 pub record Offers (old new : Giver) : Type 0 where
-  pub told : OffersAll old.number (giver_memo old).made (filled_count old) (giver_memo old) (giver_memo new)
+  pub told : OffersAll (giver_memo old).made (filled_count old) (giver_memo old) (giver_memo new)
   pub none_filled : filled_count new ≡ 0
   pub vacant_is : vacant_count new ≡ vacant_count old
   pub late_is : new.late ≡ old.late

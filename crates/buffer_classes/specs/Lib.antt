@@ -9,7 +9,7 @@ pub mod Names
 pub mod Seats
 pub use Rattle.buffer_classes.specs.Buffers.{Buffer, filled_with, IsBufferOf, found_full}
 pub use Rattle.buffer_classes.specs.ByIndex.{AllOf}
-pub use Rattle.buffer_classes.specs.Claims.{ticket, asked, lost_at, Asks, AsksClass, ClaimTells, claim_with, outcome_of, AreSmall, HoldsSoMany}
+pub use Rattle.buffer_classes.specs.Claims.{ticket, asked, lost_at, Asks, AsksClass, ClaimTells, claim_with, outcome_of, finish_of, AreSmall, HoldsSoMany}
 pub use Rattle.buffer_classes.specs.Classes.{class_sizes, first_fitting, RiseFrom, class_terms, AreClasses}
 pub use Rattle.buffer_classes.specs.Givers.{givers_of, AreGiversOf, IsBufferIn, AreBuffersIn, class_count, late_of, GaveBack, Welcomed, Freed, IsNextClaimant}
 pub use Rattle.buffer_classes.specs.Giving.{ClassMemo, giver_memo, vacant_count, filled_count, IsGiverOf, Begins, Puts, Offers, Takes, Frees, late_count, in_all, IsFilledUp, ReapsAll, FillsLate}

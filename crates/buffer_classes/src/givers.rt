@@ -26,10 +26,11 @@ impl Givers {
     /// Puts the buffers of `back` into vacant positions of their classes, and makes these free in one step a
     /// class. `back` is empty then, and keeps its room. What found no vacant position before goes first. A buffer
     /// that finds none waits for the next call, and is dropped only where as many wait as the class has buffers.
-    /// Steps: for each class, of b buffers: at most b + 1 reaps, b refills of late buffers, one load, and b + claimants
-    /// + 1 tries. For each buffer that comes one refill at most. Memory: none; a buffer is let go only where as many
-    /// wait as its class has. By: `gave` (`GaveBack`: `run` has the reaps, `told` (`OffersAll`) the tries, `steps`
-    /// their bound, `Accounts` the buffers).
+    /// Steps: for each class, of b buffers: a reap for each that was finished and one more, b refills of late buffers,
+    /// one load, and a try for each other position and each claimant: at most b + claimants + 2 atomic steps. For each
+    /// buffer that comes one refill at most. Memory: none; a buffer is let go only where as many wait as its class has.
+    /// By: `gave` (`GaveBack`: `run` has the reaps, `told` (`OffersAll`) the tries, `steps` their bound, `Accounts` the
+    /// buffers).
     pub fn give(&mut self, classes: &Classes, back: &mut Vec<CtxBuf>)
         requires mine { AreGiversOf classes.now self.old }
         requires back { AreBuffersIn (class_sizes classes.now) back.old.items }

@@ -3,7 +3,7 @@ ghost use Rattle.std.specs.Prelude.{◌≡◌, [], ℕ, ◌+◌, ◌-◌, ◌*�
 ghost use mathlib.Core.Option.{some};
 ghost use lib.ListN.{get_elem?};
 ghost use Rattle.permit_ring.specs.Seats.{ring_seats, ring_terms, seat_calls};
-ghost use Rattle.buffer_classes.specs.{IsBufferOf, AreSmall, Asks, AsksClass, asked, claim_with, outcome_of, ClaimTells, HoldsSoMany, class_sizes, first_fitting, Class as ClassValue, IsClassSeat, IsClaimSeatOf, claimant_of, claims_of, log_of, memo_at, steps_of};
+ghost use Rattle.buffer_classes.specs.{IsBufferOf, AreSmall, Asks, AsksClass, asked, claim_with, finish_of, outcome_of, ClaimTells, HoldsSoMany, class_sizes, first_fitting, Class as ClassValue, IsClassSeat, IsClaimSeatOf, claimant_of, claims_of, log_of, memo_at, steps_of};
 
 use crate::buffer::CtxBuf;
 use crate::class::{Buffers, Class, Classes};
@@ -31,8 +31,9 @@ impl ClaimSeat {
     /// Claims a buffer for so many bytes. The fitting classes are asked from the smallest on. A claimed buffer keeps
     /// the bytes of its last user until it is filled.
     /// Steps: the classes that fit, at most 4, until one has a buffer free: one load and at most one fetch_add each,
-    /// and an exchange and a store where one has. By: `few_steps`: at most three steps at each class that fits; `steps`
-    /// (`Asks`), `told` (`ClaimTells`); answer `Claim`, no NoMemory; the classes by `&`.
+    /// and an exchange and a store where one has. By: `few_steps`: at most two steps at each class that fits, and
+    /// one more where it gets a buffer; `steps` (`Asks`), `told` (`ClaimTells`); answer `Claim`, no NoMemory; the classes
+    /// by `&`.
     pub fn claim(&mut self, classes: &Classes, len: u64) -> Claim
         requires mine { IsClaimSeatOf classes.now self.old }
         requires some { 1 ≤ len }
@@ -47,8 +48,8 @@ impl ClaimSeat {
         // Each look, and the claim, is the word of a step of this call at its class.
         ensures steps { (i : ℕ) (class : ClassValue) → get_elem? classes.now.classes.items i ≡ some class
             → Asks (ring_seats class.ring) (memo_at self.old i) (asked (first_fitting len (class_sizes classes.now)) result i) (memo_at self.new i) }
-        // At most three steps at each class that fits.
-        ensures few_steps { steps_of self.new ≤ steps_of self.old + 3 * (length (class_sizes classes.now) - first_fitting len (class_sizes classes.now)) }
+        // At most two steps at each class that fits, and one more where it gets a buffer.
+        ensures few_steps { steps_of self.new ≤ steps_of self.old + 2 * (length (class_sizes classes.now) - first_fitting len (class_sizes classes.now)) + finish_of result }
         ensures logs { (i : ℕ) → log_of self.new i ≡ log_of self.old i ++ asked (first_fitting len (class_sizes classes.now)) result i }
     {
         let mut looks = Looks::none();
@@ -79,8 +80,8 @@ impl ClaimSeat {
         // Each look, and the claim, is the word of a step of this call at its class.
         ensures steps { (i : ℕ) (class : ClassValue) → get_elem? classes.now.classes.items i ≡ some class
             → Asks (ring_seats class.ring) (memo_at self.old i) (asked (first_fitting len (class_sizes classes.now)) (claim_with result looks.new) i) (memo_at self.new i) }
-        // At most three steps at each class that fits.
-        ensures few_steps { steps_of self.new ≤ steps_of self.old + 3 * (length (class_sizes classes.now) - first_fitting len (class_sizes classes.now)) }
+        // At most two steps at each class that fits, and one more where it gets a buffer.
+        ensures few_steps { steps_of self.new ≤ steps_of self.old + 2 * (length (class_sizes classes.now) - first_fitting len (class_sizes classes.now)) + finish_of (claim_with result looks.new) }
         ensures logs { (i : ℕ) → log_of self.new i ≡ log_of self.old i ++ asked (first_fitting len (class_sizes classes.now)) (claim_with result looks.new) i }
     {
         self.claims += 1;

@@ -4,11 +4,11 @@ use Rattle.main_function.proofs.ReportLemmas.{turn_adds}
 
 -- a turn, which is made of so many places and gives these buffers back
 pub turn_is_quick : {shared : Shared} {positions : ℕ} {old new : Desk} {taken : List (Entry Buffer)} {turn : Turn} {back : List Buffer}
-    → IsDeskOf shared old → positions ≡ queue_positions shared.queue → MakesTurn positions (desk_memo old) taken turn (desk_memo new)
+    → IsDeskOf shared old → positions ≡ queue_positions shared.queue → (desk_memo old).offered ≡ positions + length (desk_memo old).notes → MakesTurn positions (desk_memo old) taken turn (desk_memo new)
     → AllOf (GaveBack back) (givers_of old.givers) (givers_of new.givers) → IsQuick shared 0 old new
-turn_is_quick {shared} {old = old} mine positions_are makes gave = record {
+turn_is_quick {shared} {old = old} mine positions_are offered makes gave = record {
   at_reports = λ config made_for.
-      omega (arith, (turn_adds _ _ _ _ _ makes).few_moves, positions_are, made_for.positions_are, made_for.callers_are, mine.taker.seats_are);
+      omega (arith, (turn_adds _ _ _ _ _ makes).few_moves offered, positions_are, made_for.positions_are, made_for.callers_are, mine.taker.seats_are);
   at_class = λ config made_for i before after at_before at_after.
       let class = there shared.classes.classes.items i (subst (λ n. i < n) mine.givers.all (at_length (givers_of old.givers) i before at_before)) in
       let giver = mine.givers.each i class.0 before class.1 at_before in

@@ -1,5 +1,6 @@
 -- What a turn adds to the desk, and to what it shows of a history.
-use Rattle.main_function.proofs.Names.{◌≡◌, ℕ, ◌+◌, ◌*◌, ◌≤◌, List, [], ◌∷◌, ◌++◌, length, map, arith, common_steps, flat_map-append, length-map, map-append, sum_by_push, entry_by, Entry, Turn, Buffer, DeskMemo, MakesTurn, ShowsHistory, held, item_of, items_of, sweeps_for, AreTotals, plain_item, Totals, end_steps, gave_of, only_reaps}
+use Rattle.main_function.proofs.Names.{◌≡◌, ℕ, ◌+◌, ◌≤◌, List, [], ◌∷◌, ◌++◌, length, map, arith, common_steps, flat_map-append, length-map, map-append, sum_by_push, entry_by, Entry, Turn, Buffer, DeskMemo, MakesTurn, ShowsHistory, held, item_of, items_of, sweeps_for, AreTotals, plain_item, Totals, end_steps, gave_of, only_reaps}
+use Rattle.std.proofs.Common.{eq-zero-or-pos}
 use Rattle.std.proofs.lemmas.Bool.Decides.{nat_tests}
 use mathlib.Core.List.{map-map}
 use Rattle.history_spec.specs.Fronts.{and_front}
@@ -14,7 +15,7 @@ pub record TurnAdds (positions : ℕ) (old : DeskMemo) (taken : List (Entry Buff
   pub swept1_is : new.swept1 ≡ old.swept1 ++ turn.head.lost_contexts ∷ []
   pub made_is : new.made ≡ old.made
   pub back_is : new.back ≡ old.back
-  pub few_moves : length new.moves ≤ length old.moves + 2 * positions + old.made + 5
+  pub few_moves : old.offered ≡ positions + length old.notes → length new.moves ≤ length old.moves + positions + old.made + 4
 
 module _ (positions : ℕ) (old new : DeskMemo) (turn : Turn) (taken : List (Entry Buffer)) (makes : MakesTurn positions old taken turn new) where
   pub turn_adds : TurnAdds positions old taken turn new
@@ -22,8 +23,8 @@ module _ (positions : ℕ) (old new : DeskMemo) (turn : Turn) (taken : List (Ent
       let swept = sweeps_for turn old in
       let only = only_reaps (items_of taken) swept in
       let steps = end_steps (items_of taken) swept makes.took makes.takes in
-      let gave = gave_of positions old.made (length taken) makes.took new makes.gives in
-      grind (arith, nat_tests, common_steps, only, steps, gave, makes.takes, makes.few, length-map taken item_of)
+      let gave = gave_of old.made (length taken) makes.took new makes.gives in
+      grind (arith, nat_tests, common_steps, only, steps, gave, makes.takes, makes.few, length-map taken item_of, eq-zero-or-pos (length taken))
 
   -- a desk that shows turns shows one turn more
   pub shows_more : (turns : List Turn) → old.offered ≡ positions + length old.notes → ShowsHistory positions old turns

@@ -26,6 +26,6 @@ sweeps_for turn desk = sweeps 1 turn.head.lost_contexts (sweeps 0 turn.head.lost
 pub record MakesTurn (positions : ℕ) (old : DeskMemo) (taken : List (Entry Buffer)) (turn : Turn) (new : DeskMemo) : Type 0 where
   pub took : DeskMemo
   pub takes : ReapsToEnd (items_of taken) (sweeps_for turn old) took
-  pub gives : OffersAll positions old.made (length taken) took new
+  pub gives : OffersAll old.made (length taken) took new
   pub entries_are : turn.entries ≡ map (entry_by held) taken
   pub few : length taken ≤ positions

@@ -2,7 +2,7 @@
 use Rattle.std.specs.Borrow.{Bor}
 use mathlib.Core.Option.{some}
 use lib.ListN.{get_elem?}
-use Rattle.std.specs.Prelude.{◌≡◌, ℕ, ◌+◌, ◌*◌, ◌≤◌, ◌<◌, ◌^◌, List, [], ◌∷◌, ◌++◌, length, Result, Ok, Err}
+use Rattle.std.specs.Prelude.{◌≡◌, ℕ, ◌+◌, ◌≤◌, ◌<◌, ◌^◌, List, [], ◌∷◌, ◌++◌, length, Result, Ok, Err}
 use Rattle.main_function.specs.Names.{Output, IsMadeFor, Shared, Parts, Entry, Sends, handed_of, all_parcels, Buffer, giver_memo, givers_of, Desk, Turn, DeskMemo, desk_memo, Giver}
 use Rattle.ids_types.specs.declared.entry.TurnHead.{TurnHead}
 use Rattle.history_spec.specs.Contexts.{class_at}
@@ -42,13 +42,13 @@ module _ {C : Type 0} (stands : C → Parts → List Turn → Type 0) (kept : C 
     pub turns_are : new.turns ≡ old.turns + 1
     pub last_is : new.last ≡ tick
 
--- how many steps a turn makes at most at the report ring: two sweeps, a mark for each place and one more, a look at the permit word, and an offer that each place and each caller may make miss once
+-- how many steps a turn makes at most at the report ring: two sweeps, a mark for each item that it takes and one more, a look at the permit word, and a try for each place of which it took none and for each caller
 abbrev pub most_steps : Parts → ℕ
-most_steps config = 2 * config.ring + config.callers + 5
+most_steps config = config.ring + config.callers + 4
 
 -- and at the ring of class i, which it does not sweep
 abbrev pub most_class_steps : Parts → ℕ → ℕ
-most_class_steps config i = 2 * (class_at config i).number + config.callers + 3
+most_class_steps config i = (class_at config i).number + config.callers + 2
 
 -- it made no more steps than these at any ring, and one more for each pass that came back before
 pub record IsQuick (shared : Shared) (came : ℕ) (old new : Desk) : Type 0 where

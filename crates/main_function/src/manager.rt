@@ -51,8 +51,8 @@ impl<C: ParcelChain<CtxBuf>> Manager<C> {
     /// output is lent. A refusal makes no step and changes nothing. It takes no memory, and the number of its steps is
     /// bounded by the numbers of the configuration, whatever the callers do (`IsQuick`).
     /// Steps: two swaps; at most positions items taken, and one load more; one `Chain::turn`; one `Desk::give_back`;
-    /// none of these where it is refused. At the report ring at most 2 × positions + callers + 5 steps, at a class at
-    /// most 2 × buffers + callers + 3. Waits: as its chain; `EventChain`: no. By: `fault`, `after_borrow`
+    /// none of these where it is refused. At the report ring at most positions + callers + 4 steps, at a class at
+    /// most buffers + callers + 2. Waits: as its chain; `EventChain`: no. By: `fault`, `after_borrow`
     /// (`TurnLeaves`: `IsQuick` has the bounds, `MakesTurn` the steps in their order, `KeepsRoom` that no memory is
     /// taken); answer `TurnFault`, no NoMemory.
     pub fn turn(&mut self, shared: &Shared, tick: u64) -> Result<&TurnOut, TurnFault>

@@ -8,11 +8,11 @@ use Rattle.ring_core.specs.{loss_at, after}
 use Rattle.permit_ring.proofs.ListLemmas.{at_end, at_length}
 use Rattle.permit_ring.proofs.SeatSteps.{number_is, number_reads, read_back, word_packs_here}
 use Rattle.permit_ring.proofs.Settled.{all_marks, not_over, settled, some_there, more_fronts}
-use Rattle.permit_ring.proofs.States.{ring_of, sizes_of, one_turn_ahead, keeper_port, not_first, fates_stay, slots_stay, slots_set, leads_on, by_seat-on, by_keeper-on}
+use Rattle.permit_ring.proofs.States.{ring_of, sizes_of, over_few, one_turn_ahead, keeper_port, not_first, fates_stay, slots_stay, slots_set, leads_on, by_seat-on, by_keeper-on}
 
 -- a ring's permit word is one of its sizes
-is_word : {n limit : ℕ} {m : Machine} → IsRing m → HasSizes n limit m → IsWord n limit m.word
-is_word {m = m} ring sizes = grind (arith, sizes, word_packs m ring, ring.permits, small m ring)
+is_word : {n limit : ℕ} {m : Machine} → IsRing m → HasSizes n limit m → m.word.over < limit → IsWord n limit m.word
+is_word {m = m} ring sizes few = grind (arith, sizes, word_packs m ring, ring.permits, small m ring)
 
 module _ {S : Type 0} where
   -- so many slots are given back, the first first
@@ -150,8 +150,9 @@ module _ {O D T N : Type 0} (note : D → N) (Ao : T → O → Type 0) (An : T �
         let p = keeper_port r at in
         let words = set-get_or s.words 0 0 ∙ r.words_are in
         let k : KeeperMemo N = reads key.limit r.machine.word r.keeper in
+        let counted = r.knows.counted in
         let runs = keeper_steps r Read {found = packed key.limit r.machine.word} {k = k} (read_next r.machine) (cc ((sizes_of r).limit_is)) words (slots_stay refl refl refl r.are_slots) (assumption) in
-        rw (p.0, p.1, read_back r) (Keeps key k, keeps, tt, runs, (number_reads r, refl, is_word (ring_of r) (sizes_of r))))
+        rw (p.0, p.1, read_back r) (Keeps key k, keeps, tt, runs, (number_reads r, refl, is_word (ring_of r) (sizes_of r) (over_few r), omega (arith, (ring_of r).permits))))
 
     -- its sweep of a kind of loss
     pub sweep_ready : (kind : ℕ) → kind < 2 → Allows (Runs note Ao An key) slots id me (kind + 1) (λ _. 0)
@@ -193,7 +194,7 @@ module _ {O D T N : Type 0} (note : D → N) (Ao : T → O → Type 0) (An : T �
         let leads = offer_takes_next m count room.0 room.1 same in
         let now : Machine = record m { word = offered_to m.word count; offered = m.offered + count; seen = offered_to m.word count } in
         let left = is_word {m = now} (rw leads at (next_keeps m ring (Offer count)))
-        (record { positions_are = (sizes_of r).positions_are; limit_is = limit }) in
+        (record { positions_are = (sizes_of r).positions_are; limit_is = limit }) r.sizes.some_seat in
         let long : count ≡ length its.values = ready_is its ∙ sym its.filled_are in
         let k : KeeperMemo N = offers_all key.limit count r.keeper in
         let first = at_longer r.keeper.fronts (k.offered ∷ []) 0 key.positions counted.first_front in
@@ -216,5 +217,5 @@ module _ {O D T N : Type 0} (note : D → N) (Ao : T → O → Type 0) (An : T �
         let runs = keeper_steps r (Offer count) {found = packed key.limit m.word} {k = k} (offer_misses_next m count room.0 room.1 other) (cc limit)
         (set-get_or s.words 0 0 ∙ r.words_are) (slots_stay refl refl refl r.are_slots) (assumption) in
         rw (ne_eqb (slice_index s.words 0) old miss, read_back r)
-        (Keeps key k, keeps, tt, runs, ((λ hit. absurd (miss hit)), λ _. (number_reads r, refl, is_word ring (sizes_of r), falls))))
+        (Keeps key k, keeps, tt, runs, ((λ hit. absurd (miss hit)), λ _. (number_reads r, refl, is_word ring (sizes_of r) (over_few r), falls))))
         (cases_eq (slice_index s.words 0) old)))

@@ -75,9 +75,12 @@ module _ {O D T N : Type 0} {note : D → N} {Ao : T → O → Type 0} {An : T �
 
   -- the state before each move is that of a ring of the ring's sizes
   ring_before : (p : ℕ) → IsRing (before p) × HasSizes key.positions key.limit (before p)
-  ring_before p = led_keeps first (before p) (take p r.moves)
+  ring_before p =
+      let led = led_keeps first (before p) (take p r.moves)
       (opens key.positions key.limit r.sizes.some_position r.sizes.most_positions r.sizes.some_seat r.sizes.most_seats)
-      (through first r.machine r.moves p r.reached).0
+      (λ full. absurd (omega (arith, full, r.sizes.some_position)))
+      (through first r.machine r.moves p r.reached).0 in
+      (led.0, led.1)
 
   -- what is free, what was left and what was claimed since are all positions
   account : (z p : ℕ) → z ≤ p → HasGivenBack key r.moves z p → (before p).word.free + left_and_since key r.moves z p ≡ key.positions

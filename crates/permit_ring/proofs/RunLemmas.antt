@@ -30,7 +30,7 @@ module _ {N : Type 0} where
   end_steps xs old new run = grind (arith, common_steps, run, only_reaps xs old)
 
   -- what an offer leaves, with or without a step
-  pub record Gave (most count : ℕ) (old new : KeeperMemo N) : Type 0 where
+  pub record Gave (limit count : ℕ) (old new : KeeperMemo N) : Type 0 where
     pub notes_are : new.notes ≡ old.notes
     pub fronts_are : (count ≡ 0 → new.fronts ≡ old.fronts) × (0 < count → new.fronts ≡ old.fronts ++ (old.offered + count) ∷ [])
     pub offered_is : new.offered ≡ old.offered + count
@@ -38,7 +38,7 @@ module _ {N : Type 0} where
     pub swept1_is : new.swept1 ≡ old.swept1
     pub made_is : new.made ≡ old.made
     pub back_is : new.back ≡ old.back
-    pub few_moves : length new.moves ≤ length old.moves + most
+    pub few_moves : (count ≡ 0 → new.moves ≡ old.moves) × (0 < count → length new.moves + length old.notes ≤ length old.moves + old.offered + limit + 1)
 
-  pub gave_of : (n limit count : ℕ) (old new : KeeperMemo N) → OffersAll n limit count old new → Gave (n + limit + 2) count old new
-  gave_of n limit count old new gave = grind (arith, common_steps, gave, eq-zero-or-pos count)
+  pub gave_of : (limit count : ℕ) (old new : KeeperMemo N) → OffersAll limit count old new → Gave limit count old new
+  gave_of limit count old new gave = grind (arith, common_steps, gave, eq-zero-or-pos count)

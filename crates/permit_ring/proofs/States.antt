@@ -1,7 +1,12 @@
 -- Moves lead from ring to ring, each of one actor alone, and what stays of the rule where one view changes.
-use Rattle.permit_ring.proofs.Names.{◌≡◌, ◌≢◌, ℕ, ◌+◌, ◌%◌, ◌<◌, ◌≤◌, true, List, set, Option, ◌∙◌, inl, inr, mod-lt, arith, cases_eq, common_steps, length-set, set_here, set_else, State, Machine, HasSizes, opening, IsRing, SameHolders, same_position, opens, Key, KeeperMemo, SeatMemo, Slot, View, Sits, Keeps, AreFates, IsSlot, AreSlots, IsSeatMemo, Runs, get_elem?, some, [], ◌∷◌, Some, sym, subst, append-nil, after, next, step_of_next, after_keeps, after_sizes, same_sizes, Step, Move, found_at, Leads, is_of_seat, is_of_keeper, by_seat, by_keeper, and_move, cond}
+use Rattle.permit_ring.proofs.Names.{◌≡◌, ◌≢◌, ℕ, ◌+◌, ◌%◌, ◌<◌, ◌≤◌, true, List, set, Option, ◌∙◌, inl, inr, mod-lt, arith, cases_eq, common_steps, length-set, set_here, set_else, State, Machine, HasSizes, opening, IsRing, SameHolders, same_position, opens, Key, KeeperMemo, SeatMemo, Slot, View, Sits, Keeps, AreFates, IsSlot, AreSlots, IsSeatMemo, Runs, get_elem?, some, [], ◌∷◌, Some, sym, subst, append-nil, after, next, step_of_next, after_keeps, after_sizes, same_sizes, Step, Move, found_at, Leads, is_of_seat, is_of_keeper, by_seat, by_keeper, and_move, cond, zero, suc, ap, SeatView, seat_at, live_is_made, served, new_seat, possible}
 use mathlib.Core.Option as maybe
 use Rattle.std.proofs.lemmas.List.Elements.{filter-append}
+use Rattle.std.proofs.lemmas.List.Sums.{sum_by_push}
+use Rattle.ring_core.proofs.SeatLemmas.{one_if, sums_after}
+use Rattle.ring_core.specs.{armed_count}
+use Rattle.ring_core.specs.declared.step.Step.TheVariants.{Resume}
+use Rattle.permit_ring.specs.{Look, Claim, Finish, See, Read, Offer, Mark, Sweep, Split, Join}
 
 -- one step more
 pub leads_on : (start m now : Machine) (moves : List Move) (step : Step) → Leads start moves m → next m step ≡ Some now
@@ -9,12 +14,41 @@ pub leads_on : (start m now : Machine) (moves : List Move) (step : Step) → Lea
 leads_on start m now [] step led e = grind (arith, led, step_of_next m now step e)
 leads_on start m now (v ∷ vs) step led e = (led.0, led.1, leads_on (after start v.step) m now vs step led.2 e)
 
+-- where none is free, the seat that took the last is not armed, and made no vain claim since
+abbrev pub OneIsLeft : Machine → Type 0
+OneIsLeft m = m.word.free ≡ 0 → armed_count m.seats + m.word.over < m.limit
+
+-- no more seats are armed where the one that changed was armed before
+armed_set : (seats : List SeatView) (i : ℕ) (seat : SeatView) → (seat.armed ≡ true → (seat_at seats i).armed ≡ true)
+    → armed_count (set seats i seat) ≤ armed_count seats
+armed_set [] i seat was = grind arith
+armed_set (x ∷ seats) zero seat was = grind (arith, common_steps)
+armed_set (x ∷ seats) (suc i) seat was = grind (arith, common_steps, armed_set seats i seat was)
+
+-- each step keeps it
+left_after : (m : Machine) → IsRing m → OneIsLeft m → (step : Step) → possible m step ≡ true → OneIsLeft (after m step)
+left_after m r left (Look i) ok = let same = armed_set m.seats i in grind arith
+left_after m r left (Claim i) ok =
+    let made = live_is_made m.seats i ((r.seats.each i).armed_is_live ok) in
+    let sums = sums_after m.seats i (served m.word (seat_at m.seats i)) made in
+    grind (arith, sums, ap one_if ok)
+left_after m r left (Finish i) ok = let same = armed_set m.seats i in grind arith
+left_after m r left See ok = left
+left_after m r left Read ok = left
+left_after m r left (Offer k) ok = grind arith
+left_after m r left (Mark i kind) ok = let same = armed_set m.seats i in grind arith
+left_after m r left (Sweep kind) ok = grind arith
+left_after m r left Split ok = grind (arith, sum_by_push (λ (s : SeatView). one_if s.armed) m.seats new_seat)
+left_after m r left (Join i) ok = let same = armed_set m.seats i in grind arith
+left_after m r left (Resume i) ok = let same = armed_set m.seats i in grind arith
+
 -- moves lead from a ring to a ring, of its sizes
-pub led_keeps : (start m : Machine) (moves : List Move) → IsRing start → Leads start moves m
-    → IsRing m × HasSizes start.positions start.limit m
-led_keeps start m [] r led = (subst IsRing (sym led) r, same_sizes start m led)
-led_keeps start m (v ∷ vs) r led =
-    grind (arith, after_sizes start v.step, led_keeps (after start v.step) m vs (after_keeps start r v.step led.0) led.2)
+pub led_keeps : (start m : Machine) (moves : List Move) → IsRing start → OneIsLeft start → Leads start moves m
+    → IsRing m × HasSizes start.positions start.limit m × OneIsLeft m
+led_keeps start m [] r left led = (subst IsRing (sym led) r, same_sizes start m led, subst OneIsLeft (sym led) left)
+led_keeps start m (v ∷ vs) r left led =
+    let rest = led_keeps (after start v.step) m vs (after_keeps start r v.step led.0) (left_after start r left v.step led.0) led.2 in
+    grind (arith, after_sizes start v.step, rest)
 
 module _ (moves : List Move) (step : Step) (found : ℕ) where
   -- a move of seat i stands last among its moves, and another's move leaves them alone
@@ -57,15 +91,20 @@ module _ {O D N : Type 0} {note : D → N} {Admits : O
 module _ {O D T N : Type 0} {note : D → N} {Ao : T → O → Type 0} {An : T → N → Type 0} {key : Key T} {s : State (Slot O D) (View T N)}
     (r : Runs note Ao An key s) where
   -- the machine is a ring of the ring's sizes
-  ring_led : IsRing r.machine × HasSizes key.positions key.limit r.machine
+  ring_led : IsRing r.machine × HasSizes key.positions key.limit r.machine × OneIsLeft r.machine
   ring_led = led_keeps (opening key.positions key.limit) r.machine r.moves
-      (opens key.positions key.limit r.sizes.some_position r.sizes.most_positions r.sizes.some_seat r.sizes.most_seats) r.reached
+      (opens key.positions key.limit r.sizes.some_position r.sizes.most_positions r.sizes.some_seat r.sizes.most_seats)
+      (λ full. absurd (omega (arith, full, r.sizes.some_position))) r.reached
 
   pub ring_of : IsRing r.machine
   ring_of = ring_led.0
 
   pub sizes_of : HasSizes key.positions key.limit r.machine
   sizes_of = ring_led.1
+
+  -- not all seats claimed in vain since the last offer
+  pub over_few : r.machine.word.over < key.limit
+  over_few = grind (arith, sizes_of, ring_led.2, ring_of.permits.either, r.sizes.some_seat)
 
   -- no ticket is a turn ahead
   pub one_turn_ahead : r.machine.offered ≤ r.machine.reaped + key.positions

@@ -84,7 +84,7 @@ TriesTell limit count old tries new = (missed : List PermitWord) × (tries ≡ l
 abbrev pub OfferTells : {N : Type 0} → ℕ → ℕ → KeeperMemo N → ℕ → KeeperMemo N → Type 0
 OfferTells limit count old tries new = (first : PermitWord) × TriesTell limit count (reads limit first old) tries new
 
--- an offer of so many of n positions, by at most one try more than there are positions and seats; no step where there are none
-abbrev pub OffersAll : {N : Type 0} → ℕ → ℕ → ℕ → KeeperMemo N → KeeperMemo N → Type 0
-OffersAll n limit count old new = (count ≡ 0 → new ≡ old)
-    × (0 < count → (tries : ℕ) × (tries ≤ n + limit + 1) × OfferTells limit count old tries new)
+-- an offer of so many positions, by at most as many tries as there are seats and positions that were offered and not reaped; no step where there are none
+abbrev pub OffersAll : {N : Type 0} → ℕ → ℕ → KeeperMemo N → KeeperMemo N → Type 0
+OffersAll limit count old new = (count ≡ 0 → new ≡ old)
+    × (0 < count → (tries : ℕ) × (tries + length old.notes ≤ old.offered + limit) × OfferTells limit count old tries new)

@@ -10,6 +10,8 @@ use Rattle.permit_ring.specs.Steps.{new_memo, first_memo, looks, claims, finishe
 pub record IsWord (n limit : ℕ) (word : PermitWord) : Type 0 where
   pub packs : IsPackable limit word
   pub free_within : word.free ≤ n
+  -- a claim that was not in vain took the last free position
+  pub over_few : word.over < limit
   pub few : word.claimed ≤ 2 ^ 45
 
 module _ {T N : Type 0} where
@@ -124,12 +126,13 @@ module _ {O D T N : Type 0} where
       × (sum (swept_of (st.word - 1) (keeper_in now.0)) ≤ 2 ^ 45)
       × (AreAllBack (keeper_in me.0) → AreAllSwept (st.word - 1) (keeper_in now.0))
 
-  -- the keeper's look at the permit word
+  -- the keeper's look at the permit word: what it has in hand is not free
   abbrev pub read_word : Step (Slot O D) → Known O D T N → ℕ → Known O D T N → Type 0
   read_word st me n now =
       IsReadable (limit_in me.0) n
       × (now ≡ (on_keeper (reads (limit_in me.0) (unpacked (limit_in me.0) n)) me.0, me.1))
       × IsWord (positions_in me.0) (limit_in me.0) (unpacked (limit_in me.0) n)
+      × ((unpacked (limit_in me.0) n).free + length (keeper_in me.0).notes ≤ (keeper_in me.0).offered)
 
   -- a try to offer what is ready
   abbrev pub tried_offer : Step (Slot O D) → Known O D T N → ℕ → Known O D T N → Type 0

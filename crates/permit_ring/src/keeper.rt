@@ -132,14 +132,15 @@ impl<F: Freight> Keeper<F> {
     /// Makes all refilled positions free in one step, and answers how many steps it tried: 0 where
     /// none was refilled, and else the last one succeeded. Before the first it looks at the permit
     /// word; each other one found that a seat had claimed since the word that the keeper knew.
-    /// Steps: none where nothing was refilled; else one load, and at most positions + seats + 1 tries of one
-    /// compare-exchange each. By: clauses `bound`, `none`, `told` (`OfferTells`); the ring by `&`.
+    /// Steps: none where nothing was refilled; else one load, and at most as many tries of one compare-exchange each as
+    /// there are seats and positions that are not in hand. By: clauses `bound`, `none`, `told` (`OfferTells`); the ring
+    /// by `&`.
     pub fn offer(&mut self, ring: &Ring<F>) -> u16
         requires mine { IsKeeperOf F.admits_offered ring.now self.old }
         ensures mine { IsKeeperOf F.admits_offered ring.now self.new }
         ensures none { filled_of self.old ≡ 0 → (result ≡ 0) × (keeper_memo self.new ≡ keeper_memo self.old) }
         ensures told { 0 < filled_of self.old → OfferTells (ring_seats ring.now) (filled_of self.old) (keeper_memo self.old) result (keeper_memo self.new) }
-        ensures bound { result ≤ ring_positions ring.now + ring_seats ring.now + 1 }
+        ensures bound { result + filled_of self.old + vacant_of self.old ≤ ring_positions ring.now + ring_seats ring.now }
         ensures counts { (vacant_of self.new ≡ vacant_of self.old) × (filled_of self.new ≡ 0) }
     {
         if self.filled == 0 {
@@ -154,6 +155,7 @@ impl<F: Freight> Keeper<F> {
         requires mine { IsKeeperOf F.admits_offered ring.now self.old }
         ensures mine { IsKeeperOf F.admits_offered ring.now self.new }
         ensures told { (word : PermitWord) × (keeper_memo self.new ≡ reads (ring_seats ring.now) word (keeper_memo self.old)) }
+        ensures bound { field_of (ring_seats ring.now) (keeper_memo self.new).seen + filled_of self.old + vacant_of self.old ≤ ring_positions ring.now + ring_seats ring.now }
         ensures counts { (vacant_of self.new ≡ vacant_of self.old) × (filled_of self.new ≡ filled_of self.old) }
     {
         let number = ring
@@ -163,13 +165,14 @@ impl<F: Freight> Keeper<F> {
         self.seen = PermitWord::unpack(number, ring.limit);
     }
 
-    // Tries to offer what was refilled until it succeeds, and answers how often it tried.
+    // Tries to offer what was refilled until it succeeds, and answers how often it tried. Each try that misses finds a
+    // smaller field, and none is 0.
     fn free_filled(&mut self, ring: &Ring<F>) -> u16
         requires mine { IsKeeperOf F.admits_offered ring.now self.old }
         requires some { 0 < filled_of self.old }
         ensures mine { IsKeeperOf F.admits_offered ring.now self.new }
         ensures told { TriesTell (ring_seats ring.now) (filled_of self.old) (keeper_memo self.old) result (keeper_memo self.new) }
-        ensures bound { result ≤ ring_positions ring.now + ring_seats ring.now + 1 }
+        ensures bound { result ≤ field_of (ring_seats ring.now) (keeper_memo self.old).seen }
         ensures counts { (vacant_of self.new ≡ vacant_of self.old) × (filled_of self.new ≡ 0) }
     {
         let mut tries = 1;

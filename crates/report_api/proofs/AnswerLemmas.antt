@@ -1,8 +1,7 @@
 -- What a call did to its pass at the report ring, in one.
-use Rattle.report_api.proofs.Names.{◌≡◌, ℕ, ◌+◌, ◌-◌, ◌≤◌, ◌<◌, List, [], ◌∷◌, ◌++◌, length, Some, Ok, Err, refl, arith, Ticket, Caller, ClaimTells, caller_memo, ticket_of, adds_mark, finishes, item_by, Act, Outcome, PassMemo, Lost, Got, lost_events, lost_contexts, queue_seats, pass_memo, Pass, Shared, claimed, holds_ticket, common_steps, first_fitting}
+use Rattle.report_api.proofs.Names.{◌≡◌, ℕ, ◌+◌, ◌-◌, ◌*◌, ◌≤◌, ◌<◌, List, [], ◌∷◌, ◌++◌, length, Some, Ok, Err, refl, arith, Ticket, Caller, ClaimTells, caller_memo, ticket_of, adds_mark, finishes, item_by, Act, Outcome, PassMemo, Lost, Got, lost_events, lost_contexts, queue_seats, pass_memo, Pass, Shared, claimed, holds_ticket, common_steps, first_fitting}
 use Rattle.permit_ring.specs.declared.answer.Look.{Look}
-use Rattle.report_api.specs.Answers.{Given, IsCall, PutsUnder, Reports, act_with, fitting}
-use Rattle.report_api.specs.Names.{Missing}
+use Rattle.report_api.specs.Answers.{Given, IsCall, PutsUnder, Reports, context_steps}
 use Rattle.report_api.specs.declared.answer.Report.{Report as ReportAnswer}
 use Rattle.report_api.specs.declared.answer.Report.TheVariants as reports
 
@@ -39,19 +38,18 @@ module _ (limit : ℕ) (old mid : PassMemo) where
 pub put_tells : {shared : Shared} {given : Given} {old : Pass} (t : Ticket) (seat : Caller) (answer : ReportAnswer) (new : Pass) → IsCall shared given (pass_memo old)
     → ClaimTells (queue_seats shared.queue) (pass_memo old) (Ok t) (caller_memo seat) → ticket_of seat ≡ Some t
     → PutsUnder shared given (record { seat = seat; claimant = old.claimant; spare = old.spare }) answer new → Reports shared given old answer new
-put_tells {given = given} {old} t seat (reports.Accepted u) new call tells held put =
+put_tells {old = old} t seat (reports.Accepted u) new call tells held put =
     let same : t ≡ u = cc in
     let tells = rw same at tells in
-    let moves = put_call _ (pass_memo old) (caller_memo seat) u tells (act_with given put.told.0) (pass_memo new) put.told.2 in
-    record { mine = put.mine; told = (call, (_, tells, put.told)); classes = put.classes; steps = omega (arith, put.few, moves.few_moves) }
-put_tells {given = given} {old} t seat (reports.WithoutContext u looks) new call tells held put =
+    record { mine = put.mine; told = (call, (_, tells, put.told)); classes = put.classes; steps = omega (arith, put.few, (claimed _ (pass_memo old) (Ok u) (caller_memo seat) tells).few_moves) }
+put_tells {old = old} t seat (reports.WithoutContext u looks) new call tells held put =
     let same : t ≡ u = cc in
     let tells = rw same at tells in
-    let moves = put_without _ (pass_memo old) (caller_memo seat) u tells (act_with given (Missing looks)) put.told.2.0 (pass_memo new) put.told.2.1 in
-    record { mine = put.mine; told = (call, (_, tells, put.told)); classes = put.classes; steps = omega (arith, put.few, moves.few_moves) }
+    record { mine = put.mine; told = (call, (_, tells, put.told)); classes = put.classes; steps = omega (arith, put.few, (claimed _ (pass_memo old) (Ok u) (caller_memo seat) tells).few_moves) }
 put_tells t seat _ new call tells held put = absurd put.told
 
--- the classes that fit some bytes are those from the first one on
-pub fitting_some : (sizes bytes : List ℕ) → 0 < length bytes → fitting sizes bytes ≡ length sizes - first_fitting (length bytes) sizes
-fitting_some sizes [] none = absurd (omega (arith, none))
-fitting_some sizes (byte ∷ bytes) any = refl
+-- the classes that hold some bytes are those from the first one on
+pub steps_for : (sizes bytes : List ℕ) → 0 < length bytes
+    → context_steps sizes bytes ≡ 2 * (length sizes - first_fitting (length bytes) sizes) + 1
+steps_for sizes [] none = absurd (omega (arith, none))
+steps_for sizes (byte ∷ bytes) any = refl

@@ -1,5 +1,5 @@
 -- The names of other crates and of this crate's specs that more than one of its proofs stands on.
-pub use Rattle.std.proofs.Common.{◌≡◌, ℕ, suc, ◌+◌, ◌-◌, List, [], ◌∷◌, length, map, refl, ap, ◌∙◌, inl, arith, eq-eqb, ne_eqb, Some, ◌≤◌, ◌<◌, None, get_or, sym, All, slice_index_or, is_some, true, Option, ◌++◌, Ok, Err, rules, true≢false, inr, ◌≢◌, ◌⊎◌, slice_set, take}
+pub use Rattle.std.proofs.Common.{◌≡◌, ℕ, suc, ◌+◌, ◌-◌, ◌*◌, List, [], ◌∷◌, length, map, refl, ap, ◌∙◌, inl, arith, eq-eqb, ne_eqb, Some, ◌≤◌, ◌<◌, None, get_or, sym, All, slice_index_or, is_some, true, Option, ◌++◌, Ok, Err, rules, true≢false, inr, ◌≢◌, ◌⊎◌, slice_set, take}
 pub use Rattle.std.proofs.lemmas.List.{get_or_default, length-map, length-replicate, append-nil, length_push, map-append, map_push, length-set, nil_from_length}
 pub use Rattle.atomic_table.proofs.Lists.{at_index, at_map, at_set, set_here, set_else}
 pub use Rattle.buffer_classes.proofs.AskLemmas.{lost_past, below_or, nothing_past}

@@ -4,7 +4,7 @@ use mathlib.Core.Option.{some}
 use lib.ListN.{get_elem?}
 use Rattle.ids_types.specs.declared.mode.Mode.{Mode}
 use Rattle.ids_types.specs.declared.names.Ticket.{Ticket}
-use Rattle.buffer_classes.specs.{Buffer, Asks, asked, lost_at, first_fitting, memo_at, Outcome as ClassOutcome, steps_of as claim_steps}
+use Rattle.buffer_classes.specs.{Buffer, Asks, asked, lost_at, first_fitting, memo_at, Outcome as ClassOutcome}
 use Rattle.buffer_classes.specs.Claims as classes
 use Rattle.buffer_classes.specs.declared.class.Class.{Class}
 use Rattle.buffer_classes.specs.declared.seat.Claim.TheVariants as claims
@@ -103,10 +103,10 @@ ReportAsks shared bytes old (reports.WithoutContext t looks) new =
     AsksEach shared old (lost_at (first_fitting (length bytes) (sizes_of shared)) looks) new
 ReportAsks shared bytes old refused new = new ≡ old
 
--- how many classes hold so many bytes; no bytes need none
-abbrev pub fitting : List ℕ → List ℕ → ℕ
-fitting sizes [] = 0
-fitting sizes (byte ∷ bytes) = length sizes - first_fitting (suc (length bytes)) sizes
+-- how many steps the context of a report takes at most: two at each class that holds so many bytes, and one more, which finishes its buffer or marks the loss; no bytes take none
+abbrev pub context_steps : List ℕ → List ℕ → ℕ
+context_steps sizes [] = 0
+context_steps sizes (byte ∷ bytes) = 2 * (length sizes - first_fitting (suc (length bytes)) sizes) + 1
 
 -- a report was put under the ticket that the pass held, and asked so of the classes
 pub record PutsUnder (shared : Shared) (given : Given) (old : Pass) (answer : ReportAnswer) (new : Pass) : Type 0 where
@@ -114,15 +114,16 @@ pub record PutsUnder (shared : Shared) (given : Given) (old : Pass) (answer : Re
   pub ticket : IsUnder (ticket_of old.seat) answer
   pub told : PutTells shared given (pass_memo old) answer (pass_memo new)
   pub classes : ReportAsks shared given.bytes old.claimant answer new.claimant
-  pub few : claim_steps new.claimant ≤ claim_steps old.claimant + 3 * fitting (sizes_of shared) given.bytes
+  -- a finish at the report ring, and those for its context
+  pub few : steps_of new ≤ steps_of old + 1 + context_steps (sizes_of shared) given.bytes
 
 -- a report was answered so
 pub record Reports (shared : Shared) (given : Given) (old : Pass) (answer : ReportAnswer) (new : Pass) : Type 0 where
   pub mine : IsPassOf shared new
   pub told : ReportTells shared given (pass_memo old) answer (pass_memo new)
   pub classes : ReportAsks shared given.bytes old.claimant answer new.claimant
-  -- a look, a claim and a finish at the report ring, a mark of a loss, and as many as a look, a claim and a finish at each fitting class
-  pub steps : steps_of new ≤ steps_of old + 4 + 3 * fitting (sizes_of shared) given.bytes
+  -- a look, a claim and a finish at the report ring, or a mark where it is lost, and those for its context
+  pub steps : steps_of new ≤ steps_of old + 3 + context_steps (sizes_of shared) given.bytes
 
 -- each answer of a control with its cause: what the pass did at the report ring, step by step
 abbrev pub ControlTells : Act → Shared → PassMemo → Control → PassMemo → Type 0

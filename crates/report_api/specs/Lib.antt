@@ -4,7 +4,7 @@ pub mod Making
 pub mod Names
 pub mod Passes
 pub mod Terms
-pub use Rattle.report_api.specs.Answers.{Given, given, act_with, ReportTells, PutTells, IsUnder, ReportAsks, fitting, PutsUnder, Reports, ControlTells, ModeTells, Controls, CarriesAll, IsCall}
+pub use Rattle.report_api.specs.Answers.{Given, given, act_with, ReportTells, PutTells, IsUnder, ReportAsks, context_steps, PutsUnder, Reports, ControlTells, ModeTells, Controls, CarriesAll, IsCall}
 pub use Rattle.report_api.specs.Desks.{desk_memo, to_give_back, back_log, log_at, asks_back, AreTied, IsDeskOf, IsNextPass, EachSettled}
 pub use Rattle.report_api.specs.Making.{IsOfConfig, Caller, pass_of, as_passes, IsNewPass, IsNewMaking}
 pub use Rattle.report_api.specs.Names.{Act, BoxedAct, Outcome, Report, State, SetMode, Absent, Kept, Missing, Lost, Got, PassMemo, DeskMemo}

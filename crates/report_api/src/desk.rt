@@ -75,9 +75,10 @@ impl Desk {
 
     /// Makes the positions of all items that were taken free again, in one step, and gives the buffers of `back` to
     /// their classes, which are made free in one step each. `back` is empty then, and keeps its room.
-    /// Steps: as `Taker::give_back` and then `Givers::give`: at most one load and positions + callers + 1 tries, and for
-    /// each class, of b buffers, b + 1 reaps, one load, and b + callers + 1 tries. Memory: none; a buffer is let go only
-    /// where as many wait as its class has. By: `places` (`GivesBack`), `gave` (`GaveBack`: `steps`).
+    /// Steps: as `Taker::give_back` and then `Givers::give`: at most one load, and a try for each caller and each
+    /// position of which no item was taken; and at each class, of b buffers, b + callers + 2 atomic steps. Memory: none;
+    /// a buffer is let go only where as many wait as its class has. By: `places` (`GivesBack`), `gave` (`GaveBack`:
+    /// `steps`).
     pub fn give_back(&mut self, shared: &Shared, back: &mut Vec<CtxBuf>)
         requires mine { IsDeskOf shared.now self.old }
         requires back { AreBuffersIn (sizes_of shared.now) back.old.items }

@@ -83,12 +83,12 @@ pub(crate) const MOST_CALLS: u64 = 1 << 40;
 
 impl Pass {
     /// Reports a security event, seen `count` times, with its context data. No bytes are no context. It makes at most
-    /// 4 steps at the report ring and 3 at each class that fits, whatever the other callers do.
+    /// 3 steps without context, and with it 4 and 2 at each class that fits, whatever the other callers do.
     /// Steps: at the report ring one load, at most one fetch_add, and one exchange and one store for the item. At the
     /// classes that fit, at most 4, as `ClaimSeat::claim`. The bytes of the context, at most 1,024. One fetch_add more
-    /// where the event or its context is lost: at most 4 steps, and 3 at each class that fits. By: `Reports`: `steps`
-    /// the bound, `told` (`ReportTells`) step by step, `classes` (`ReportAsks`); answer `Report`, no NoMemory; shared
-    /// part by `&`, no handle that waits in its types.
+    /// where its context is lost, or instead of the item where the event is: at most 3 steps without context, and with
+    /// it 4 and 2 at each class that fits. By: `Reports`: `steps` the bound, `told` (`ReportTells`) step by step,
+    /// `classes` (`ReportAsks`); answer `Report`, no NoMemory; shared part by `&`, no handle that waits in its types.
     pub fn report(
         &mut self,
         shared: &Shared,
@@ -119,7 +119,7 @@ impl Pass {
     }
 
     /// Reports a security event, seen once, without a timestamp and without context.
-    /// Steps: as `Pass::report`, and no class is asked. By: `Reports`; answer `Report`, no NoMemory.
+    /// Steps: as `Pass::report`, and no class is asked: at most 3 steps. By: `Reports`; answer `Report`, no NoMemory.
     pub fn report_event(&mut self, shared: &Shared, event: EventIndex) -> Report
         requires mine { IsPassOf shared.now self.old }
         ensures { Reports shared.now (given event 1 None []) self.old result self.new }
@@ -128,7 +128,7 @@ impl Pass {
     }
 
     /// Reports a security event, seen `count` times, without a timestamp and without context.
-    /// Steps: as `Pass::report`, and no class is asked. By: `Reports`; answer `Report`, no NoMemory.
+    /// Steps: as `Pass::report`, and no class is asked: at most 3 steps. By: `Reports`; answer `Report`, no NoMemory.
     pub fn report_count(&mut self, shared: &Shared, event: EventIndex, count: u16) -> Report
         requires mine { IsPassOf shared.now self.old }
         ensures { Reports shared.now (given event count None []) self.old result self.new }

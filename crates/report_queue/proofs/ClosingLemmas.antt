@@ -18,9 +18,9 @@ module _ {N : Type 0} where
   same_items i f (p ∷ taken) same = cc (same 0 p refl, same_items i (suc f) taken (λ t q e. same (suc t) q e))
 
   -- giving back leaves what was taken
-  pub taken_on : (n seats count : ℕ) (old new : KeeperMemo (Item N)) → OffersAll n seats count old new → IsAllTaken old → IsAllTaken new
-  taken_on n seats count old new gave is =
-      let did = gave_of n seats count old new gave in
+  pub taken_on : (seats count : ℕ) (old new : KeeperMemo (Item N)) → OffersAll seats count old new → IsAllTaken old → IsAllTaken new
+  taken_on seats count old new gave is =
+      let did = gave_of seats count old new gave in
       let on : (g : ℕ) → StandsIn old.fronts g → StandsIn new.fronts g =
       λ g s. grind (arith, did.fronts_are, eq-zero-or-pos count, more_fronts old.fronts (old.offered + count) g s) in
       record {

@@ -31,7 +31,7 @@ module _ {P L T N : Type 0} (queue : Queue P L T N) (old : Taker P L T N) where
   -- the positions of all items that were taken are free again
   pub record GivesBack (new : Taker P L T N) : Type 0 where
     pub mine : IsTakerOf queue new
-    pub told : OffersAll (queue_positions queue) (queue_seats queue) (to_give_back old) (taker_memo old) (taker_memo new)
+    pub told : OffersAll (queue_seats queue) (to_give_back old) (taker_memo old) (taker_memo new)
     pub counts : to_give_back new ≡ 0
 
   -- a caller came back

@@ -55,8 +55,8 @@ impl<P: Cargo> Taker<P> {
 
     /// Makes the positions of all items that were taken free again, in one step. Where none was
     /// taken it makes no step.
-    /// Steps: none where nothing was taken; else one load, and at most positions + callers + 1 tries of one
-    /// compare-exchange each. By: `GivesBack` (`told`: `OffersAll`).
+    /// Steps: none where nothing was taken; else one load, and at most as many tries of one compare-exchange each as
+    /// there are callers and positions of which no item was taken. By: `GivesBack` (`told`: `OffersAll`).
     pub fn give_back(&mut self, queue: &Queue<P>)
         requires mine { IsTakerOf queue.now self.old }
         ensures { GivesBack queue.now self.old self.new }

@@ -23,6 +23,7 @@ returns-in-Err-clause-did c =
       notes = is.1.0;
       run = (c.in-Err._unready.mark, told.0, told.1);
       few = omega (arith, is.1.1, c.reap.ensures.within, c.in-Err.ensures.counts, is.0.number_is);
+      out_few = omega (arith, c.requires.mine.is_keeper, c.requires.mine.number_is);
       settled = grind (arith, c.in-Err.ensures.settled, is.1.1.run, same);
       filled_is = c.reap.ensures.counts.1 ∙ is.1.1.filled_is;
       late_is = is.1.1.late_is;

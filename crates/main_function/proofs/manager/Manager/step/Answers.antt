@@ -43,7 +43,7 @@ returns g c =
     record {
       took = desk_memo c.take_ready.new.desk;
       takes = rw (← swept.told) took.run;
-      gives = rw (mine.positions_are, mine.desk_is.taker.seats_are, ← c.take_ready.ensures.counts) c.give_back.ensures.places.told;
+      gives = rw (mine.desk_is.taker.seats_are, ← c.take_ready.ensures.counts) c.give_back.ensures.places.told;
       entries_are = refl;
       few = omega (arith, took.few, mine.positions_are);
     } in
@@ -93,13 +93,13 @@ returns g c =
         turns_are = refl;
         last_is = refl;
       };
-      quick = turn_is_quick mine.desk_is mine.positions_are makes gave;
+      quick = turn_is_quick mine.desk_is mine.positions_are mine.offered_is makes gave;
       -- no sweep and no take brings a pass back
-      all_taken = λ all. taken_on _ _ _ _ _ c.give_back.ensures.places.told (c.take_ready.ensures.all_taken (rw swept.told all));
+      all_taken = λ all. taken_on _ _ _ _ c.give_back.ensures.places.told (c.take_ready.ensures.all_taken (rw swept.told all));
       -- and nothing is swept after the takes
       swept = λ all.
           let none = swept.all_swept all in
-          let offers = gave_of _ _ _ _ _ c.give_back.ensures.places.told in
+          let offers = gave_of _ _ _ _ c.give_back.ensures.places.told in
           grind (arith, none, only, took.run.2, offers.swept0_is, offers.swept1_is, offers.back_is);
       settled = λ all. c.give_back.ensures.settled (rw (took.run.2, only.back_is, swept.told) all);
     }

@@ -9,7 +9,7 @@ invariant-loop-tries g l =
     × (l.self.vacant ≡ l.initial.self.vacant)
     × ((more : ℕ) (new : KeeperMemo _) → TriesTell l.ring.limit l.initial.self.filled (keeper_memo l.self) (1 + more) new
     → TriesTell l.ring.limit l.initial.self.filled (keeper_memo l.initial.self) (l.tries + more) new)
-    × (l.tries + field_of l.ring.limit (keeper_memo l.self).seen ≤ l.ring.positions + l.ring.limit + 1)
+    × (l.tries + field_of l.ring.limit (keeper_memo l.self).seen ≤ field_of l.ring.limit (keeper_memo l.initial.self).seen + 1)
 
 abbrev pub decreases-loop-tries : goal.decreases-loop-tries
 decreases-loop-tries g l = field_of l.ring.limit (keeper_memo l.self).seen

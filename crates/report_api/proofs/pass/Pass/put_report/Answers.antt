@@ -1,4 +1,4 @@
-use Rattle.report_api.proofs.Names.{◌≡◌, length, refl, arith, nil_from_length}
+use Rattle.report_api.proofs.Names.{◌≡◌, length, refl, arith, common_steps, nil_from_length}
 use Rattle.report_api.specs.Names.{Absent}
 use Rattle.report_api.proofs.{plain_after, put_adds}
 use Rattle.report_api.proofs.pass.Pass.put_report.Goals as goal
@@ -12,5 +12,5 @@ returns c =
       ticket = c.put.ensures.ticket;
       told = (Absent, nil_from_length c.args.context.now none, told);
       classes = (λ _. refl, λ any. absurd (omega (arith, any, none)));
-      few = omega arith;
+      few = grind (arith, common_steps, told);
     }

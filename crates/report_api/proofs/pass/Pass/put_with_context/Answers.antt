@@ -1,7 +1,7 @@
 use Rattle.report_api.proofs.Names.{ℕ, eq-eqb, ne_eqb, lost_past, length, refl, ap, arith, common_steps, sizes_of, pass_memo}
 use Rattle.buffer_classes.specs.Classes.{first_fitting}
 use Rattle.report_api.specs.Names.{Kept}
-use Rattle.report_api.proofs.{missing_within, fitting_some, at_most, missed_adds, looks_lost, pass_after, put_adds}
+use Rattle.report_api.proofs.{missing_within, steps_for, at_most, missed_adds, looks_lost, pass_after, put_adds}
 use Rattle.report_api.proofs.pass.Pass.put_with_context.Goals as goal
 
 pub put_missing-requires-clause-few : goal.put_missing-requires-clause-few
@@ -24,7 +24,7 @@ returns-in-Some c =
       ticket = c.put.ensures.ticket;
       told = (Kept filled.class filled.claim filled, grind (arith, c.requires.some, c.fill.ensures, did), told);
       classes = (λ nothing. absurd (omega (arith, c.requires.some, ap length nothing)), λ any. (c.in-Some.buf, looks, did.told, did.steps));
-      few = omega (arith, fitting_some sizes bytes c.requires.some, did.few_steps);
+      few = grind (arith, common_steps, steps_for sizes bytes c.requires.some, did.few_steps, told);
     }
 
 pub returns-in-None : goal.returns-in-None
@@ -41,5 +41,5 @@ returns-in-None c =
       ticket = put.ensures.reported.2;
       told = (c.requires.some, did.told, put.ensures.told);
       classes = did.steps;
-      few = omega (arith, fitting_some sizes bytes c.requires.some, did.few_steps);
+      few = grind (arith, common_steps, steps_for sizes bytes c.requires.some, did.few_steps, put.ensures.told);
     })
