@@ -10,6 +10,7 @@ mod closing;
 mod making;
 mod manager;
 mod rest;
+mod resting;
 mod taking;
 
 pub use making::{Made, make};

@@ -1,15 +1,17 @@
 //! The manager.
-ghost use Rattle.std.specs.Prelude.{◌≡◌, ◌≤◌, ◌<◌, ◌^◌, [], List, length, map, reverse, vec_capacity, IfOk, IsOk, OnErr, OnOk};
+ghost use Rattle.std.specs.Prelude.{◌≡◌, ◌+◌, ◌≤◌, ◌<◌, ◌^◌, [], List, length, map, reverse, vec_capacity, IfOk, IsOk, OnErr, OnOk};
 ghost use Rattle.ids_types.specs.{room_of, Turn};
 ghost use Rattle.ids_config.specs.Parts.{Parts};
 ghost use Rattle.filter_chain.specs.History.{rows_of};
 ghost use Rattle.buffer_classes.specs.Givers.{givers_of, late_of};
-ghost use Rattle.main_function.specs.{AreCountsOf, CloseLeaves, Closed, AreAllPasses, HasPasses, IsManager, IsManagerOf, Stands, StaysSo, last_of, rests_of, turns_of, calls_by, rests_told, with_rest, HasRestRoom, KeepsRestRoom, IsQuick, LogsOne, TurnFails, TurnLeaves, Turned};
+ghost use Rattle.buffer_classes.specs.{AllOf};
+ghost use Rattle.main_function.specs.{AreCountsOf, CloseLeaves, Closed, AreAllPasses, HasPasses, IsManager, IsManagerOf, Stands, StaysSo, last_of, rests_of, turns_of, calls_by, rests_told, with_rest, HasRestRoom, KeepsRestRoom, IsQuick, LogsOne, TurnFails, TurnLeaves, Turned, Rested, RestLeaves, memos_of};
 ghost use Rattle.report_queue.specs.{AreAllBack, AreAllSwept, IsAllTaken};
 ghost use Rattle.report_api.specs.{EachSettled, desk_memo, pass_memo};
 
 use crate::closing::welcome_all;
 use crate::rest::{HasPass, RestLog, Totals, TurnFault};
+use crate::resting::{hold_all, release_all};
 use crate::taking::take_ready;
 use event_memory::Memory;
 use filter_chain::ParcelChain;
@@ -68,6 +70,54 @@ impl<C: ParcelChain<CtxBuf>> Manager<C> {
         self.check(tick)?;
         self.step(shared, tick);
         Ok(&self.out)
+    }
+
+    /// Makes a turn at a rest, as `turn` does, while all passes are held. So it takes all that was accepted and is not
+    /// taken yet, and all that the close tells of all calls holds of those so far. Then the passes go on, and each later
+    /// call that finds no event buffer free saw all offered that this turn gave back. A refusal changes nothing. It takes
+    /// no memory.
+    /// Steps: for each pass, at most 32, a `Desk::hold` and a `Desk::release`; between them as `Manager::turn`. Waits: as
+    /// its chain; `EventChain`: no. By: `fault`, `passes`, `after_borrow` (`RestLeaves`: `Rested`, `IsQuick`); answer
+    /// `TurnFault`, no NoMemory.
+    pub fn turn_at_rest<P: HasPass>(
+        &mut self,
+        shared: &Shared,
+        passes: &mut [P],
+        tick: u64,
+    ) -> Result<&TurnOut, TurnFault>
+        requires mine { IsManagerOf C.events C.kept shared.now self.old }
+        requires few { turns_of self.old < 2 ^ 62 }
+        requires passes { AreAllPasses shared.now (desk_memo self.old.desk) (map P.its passes.old) }
+        ensures fault { TurnFails (last_of self.old) tick result }
+        ensures lent { IfOk result (λ out. LogsOne tick out.now) }
+        ensures passes { AreAllPasses shared.now (desk_memo self.old.desk) (map P.its passes.new) }
+        ensures stays { OnOk result (AllOf (λ i. P.stays) passes.old passes.new) }
+        ensures err { OnErr result (passes.new ≡ passes.old) }
+        // Once the output is given back, all holds that the turn leaves.
+        ensures* after_borrow { sem 𝓛 (Rests (the_row C.row) self.entry (λ new.
+            RestLeaves C.stands C.events C.kept shared.now tick (memos_of P.its passes.old) (memos_of P.its passes.new) self.old result new)) }
+    {
+        self.check(tick)?;
+        self.step_at_rest(shared, passes, tick);
+        Ok(&self.out)
+    }
+
+    // Makes a turn of a tick that may be, while all passes are held.
+    fn step_at_rest<P: HasPass>(&mut self, shared: &Shared, passes: &mut [P], tick: u64)
+        requires mine { IsManagerOf C.events C.kept shared.now self.old }
+        requires few { turns_of self.old < 2 ^ 62 }
+        requires later { last_of self.old ≤ tick }
+        requires within { tick ≤ 2 ^ 62 }
+        requires passes { AreAllPasses shared.now (desk_memo self.old.desk) (map P.its passes.old) }
+        ensures mine { IsManagerOf C.events C.kept shared.now self.new }
+        ensures rested { Rested C.stands C.kept shared.now tick (memos_of P.its passes.old) (memos_of P.its passes.new) self.old self.new }
+        ensures quick { IsQuick shared.now (length passes.old + length passes.old) self.old.desk self.new.desk }
+        ensures passes { AreAllPasses shared.now (desk_memo self.old.desk) (map P.its passes.new) }
+        ensures stays { AllOf (λ i. P.stays) passes.old passes.new }
+    {
+        hold_all(&mut self.desk, shared, passes);
+        self.step(shared, tick);
+        release_all(&mut self.desk, shared, passes);
     }
 
     /// Closes the manager: all passes come back, and a last turn of this tick takes all that was accepted and is not

@@ -1,10 +1,12 @@
 //! What a turn refuses, what rests record, and what closing tells.
-ghost use Rattle.std.specs.Prelude.{◌≡◌, ◌+◌, ◌≤◌, ◌^◌, length, vec_len, vec_capacity, IsOk, OnErr, OnOk};
+ghost use Rattle.std.specs.Prelude.{◌≡◌, ◌+◌, ◌≤◌, ◌^◌, ⊤, length, vec_len, vec_capacity, IsOk, OnErr, OnOk};
+ghost use Rattle.report_api.specs.{IsDeskOf, IsPassOf, IsNextPass};
+ghost use Rattle.main_function.specs.Holding.{IsHeldBy, IsReleasedBy};
 ghost use Rattle.report_api.specs.declared.pass.Pass.{Pass as PassValue};
 ghost use Rattle.main_function.specs.Rests.{HasRestRoom, KeepsRestRoom, calls_by, rests_told, no_rests, with_rest};
 
 use ids_types::NoMemory;
-use report_api::Pass;
+use report_api::{Desk, Pass, Shared};
 use std::alloc::Global;
 
 /// Why a turn is refused.
@@ -106,16 +108,51 @@ pub trait HasPass {
     /// The pass.
     ghost its: { Self → PassValue };
 
+    /// What is kept together with it stays.
+    ghost stays: { Self → Self → Type 0 };
+
+    ghost stays_on: { (x y z : Self) → stays x y → stays y z → stays x z };
+
     /// The pass.
     /// Steps: `Pass`: constant.
     fn pass(&self) -> &Pass
         ensures { result.now ≡ its self.now };
+
+    /// Has the desk hold the pass.
+    /// Steps: as `Desk::hold`.
+    fn hold(&mut self, desk: &mut Desk, shared: &Shared)
+        requires mine { IsDeskOf shared.now desk.old }
+        requires pass { IsPassOf shared.now (its self.old) }
+        ensures mine { IsDeskOf shared.now desk.new }
+        ensures held { IsHeldBy shared.now (its self.old) (its self.new) desk.old desk.new }
+        ensures stays { stays self.old self.new };
+
+    /// Has the desk release the pass.
+    /// Steps: as `Desk::release`.
+    fn release(&mut self, desk: &mut Desk, shared: &Shared)
+        requires mine { IsDeskOf shared.now desk.old }
+        requires held { IsNextPass shared.now desk.old (its self.old) }
+        ensures mine { IsDeskOf shared.now desk.new }
+        ensures released { IsReleasedBy shared.now (its self.new) desk.old desk.new }
+        ensures stays { stays self.old self.new };
 }
 
 impl HasPass for Pass {
     ghost its = { λ pass. pass };
 
+    ghost stays = { λ _ _. ⊤ };
+
+    ghost stays_on = { λ _ _ _ _ _. tt };
+
     fn pass(&self) -> &Pass {
         self
+    }
+
+    fn hold(&mut self, desk: &mut Desk, shared: &Shared) {
+        desk.hold(shared, self);
+    }
+
+    fn release(&mut self, desk: &mut Desk, shared: &Shared) {
+        desk.release(shared, self);
     }
 }
