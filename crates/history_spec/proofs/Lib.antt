@@ -6,5 +6,7 @@ pub mod FrontLemmas
 pub mod LossLemmas
 pub mod Names
 pub mod PlaceLemmas
+pub mod RestLemmas
 mod TotalLemmas
 mod WorkedMerge
+mod WorkedRests

@@ -7,7 +7,7 @@ claimed : (x owner ticket : ℕ) (claimants : List ℕ) → times x (claims_by o
 claimed x owner ticket [] = grind (arith, common_steps)
 claimed x owner ticket (c ∷ claimants) = grind (arith, common_steps, claimed x owner (suc ticket) claimants)
 
-times-append : (x : ℕ) (xs ys : List ℕ) → times x (xs ++ ys) ≡ times x xs + times x ys
+pub times-append : (x : ℕ) (xs ys : List ℕ) → times x (xs ++ ys) ≡ times x xs + times x ys
 times-append x [] ys = omega arith
 times-append x (y ∷ xs) ys = omega (arith, times-append x xs ys)
 
@@ -20,15 +20,15 @@ of_one i x owner (e ∷ es) none =
     grind (arith, times-append, rest, none e.caller)
 
 -- how many of the numbers are below another one
-abbrev below : ℕ → List ℕ → ℕ
+abbrev pub below : ℕ → List ℕ → ℕ
 below n [] = 0
 below n (x ∷ xs) = once_below x n + below n xs
 
-below_more : (n : ℕ) (xs : List ℕ) → below (suc n) xs ≡ times n xs + below n xs
+pub below_more : (n : ℕ) (xs : List ℕ) → below (suc n) xs ≡ times n xs + below n xs
 below_more n [] = refl
 below_more n (x ∷ xs) = let rest = below_more n xs in grind (arith, rest)
 
-none_below : (xs : List ℕ) → below 0 xs ≡ 0
+pub none_below : (xs : List ℕ) → below 0 xs ≡ 0
 none_below [] = refl
 none_below (x ∷ xs) = grind (arith, none_below xs)
 
@@ -37,10 +37,16 @@ each_below zero xs each = none_below xs
 each_below (suc n) xs each =
     omega (arith, below_more n xs, each n (omega arith), each_below n xs (λ x less. each x (omega arith)))
 
-all_below : (n : ℕ) (xs : List ℕ) → ((x : ℕ) → times x xs ≤ once_below x n) → below n xs ≡ length xs
-all_below n [] few = refl
-all_below n (x ∷ xs) few =
-    let rest = all_below n xs (λ y. omega (arith, few y)) in let here = few x in grind (arith, rest, here)
+pub all_below : (n : ℕ) (xs : List ℕ) → ((x : ℕ) → n ≤ x → times x xs ≡ 0) → below n xs ≡ length xs
+all_below n [] none = refl
+all_below n (x ∷ xs) none =
+    let rest = all_below n xs (λ y more. omega (arith, none y more)) in let here = none x in grind (arith, rest, here)
+
+-- where just the numbers below n stand in a list, each once, it has n of them
+pub as_many : (n : ℕ) (xs : List ℕ) → ((x : ℕ) → times x xs ≡ once_below x n) → length xs ≡ n
+as_many n xs once =
+    let each = each_below n xs (λ x less. grind (arith, once x, less)) in
+    omega (arith, all_below n xs (λ x more. grind (arith, once x, more)), each)
 
 module _ (i : ℕ) (es : List (Entry (List ℕ))) (claimants : List ℕ)
     (same : (c : ℕ) → claims_of i (entries_by c es) ≡ claims_by c 0 claimants) where
@@ -51,11 +57,6 @@ module _ (i : ℕ) (es : List (Entry (List ℕ))) (claimants : List ℕ)
       of_one i x owner es (λ o other. let its = claimed x o 0 claimants in rw (same o) (grind (arith, its, other)))
       ∙ rw (same owner) (let its = claimed x owner 0 claimants in grind (arith, its))
 
-  as_many_claims : length (claims_of i es) ≡ length claimants
-  as_many_claims =
-      let each = each_below (length claimants) (claims_of i es) (λ x less. grind (arith, counted x, less)) in
-      omega (arith, all_below (length claimants) (claims_of i es) (λ x. omega (arith, counted x)), each)
-
   -- and each number below how many claims there are
   pub each_claim_once : (x : ℕ) → times x (claims_of i es) ≡ once_below x (length (claims_of i es))
-  each_claim_once x = rw as_many_claims (counted x)
+  each_claim_once x = rw (as_many (length claimants) (claims_of i es) counted) (counted x)

@@ -37,7 +37,7 @@ rounds = record {
 } ∷ []
 
 -- where a call was lost, what holds of each number at which one was
-abbrev OnLost : (ℕ → Type 0) → Fate → Type 0
+abbrev pub OnLost : (ℕ → Type 0) → Fate → Type 0
 OnLost P (lost claimed) = P claimed
 OnLost P (accepted ticket) = Unit {0}
 
@@ -47,7 +47,7 @@ lost_at P [] all place claimed at = cc
 lost_at P (fate ∷ fates) all zero claimed at = rw (some-injective _ _ at) at all.0
 lost_at P (fate ∷ fates) all (suc place) claimed at = lost_at P fates all.1 place claimed at
 
-all_decided : {n : ℕ} {P : ℕ → Type 0} {fates : List Fate} → FatesFrom 0 fates → end_from 0 fates ≤ n → AllByRecursion (OnLost P) fates
+pub all_decided : {n : ℕ} {P : ℕ → Type 0} {fates : List Fate} → FatesFrom 0 fates → end_from 0 fates ≤ n → AllByRecursion (OnLost P) fates
     → AreAllDecided n P fates
 all_decided {n} {P} {fates} rises within all = record { rises = rises; within = within; at_front = lost_at P fates all }
 

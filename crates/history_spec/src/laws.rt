@@ -1,9 +1,11 @@
 //! What the logs of rings make of a history: each function has a law as its contract, and no body.
 
-ghost use Rattle.std.specs.Prelude.{ℕ, List, [], ◌∷◌};
-ghost use Rattle.ids_types.specs.{Turn, Fate};
+ghost use Rattle.std.specs.Prelude.{◌≡◌, ℕ, ◌-◌, ◌*◌, ◌<◌, ◌≤◌, List, [], ◌∷◌, length};
+ghost use Rattle.std.specs.List.{AllByRecursion};
+ghost use Rattle.ids_types.specs.{Turn, entries_of, Fate};
+ghost use Rattle.history_spec.specs.Names.{Entry, Loss};
 ghost use Rattle.ids_config.specs.Parts.{Parts};
-ghost use Rattle.history_spec.specs.{AreDecided, all_losses, Calls, fronts_from, IsFront, AreMerged, StandsIn, AreSettled, AreLegalContexts};
+ghost use Rattle.history_spec.specs.{AreDecided, all_losses, Calls, fronts_from, IsFront, AreMerged, StandsIn, AreSettled, AreLegalContexts, Rest, IsSettledAt, SeesAll, IsLater, calls_between, lost_between, turns_between};
 
 /// Where the logs of the class rings are settled and follow what the calls asked, the claims of the history
 /// stand in it once and in order, and each missing context is legal.
@@ -24,4 +26,29 @@ pub fn decided_calls_are_merged()
 #[tactic(auto, using(crate::proofs::FrontLemmas::front_was))]
 pub fn what_a_front_is()
     ensures { (n front : ℕ) (turns : List Turn) → StandsIn (fronts_from n turns (n ∷ [])) front → IsFront n turns front }
+{}
+
+/// Between two rests at most so many calls are lost as there are more than event buffers, and none if there are no
+/// more. At least so many are lost as there are more than the turns between the rests can take, if no turn takes more
+/// than there are event buffers.
+#[tactic(auto, using(crate::proofs::RestLemmas::least))]
+pub fn a_round_loses_at_most_what_it_has_too_many()
+    ensures most { (n callers : ℕ) (turns : List Turn) (losses : List Loss) (first second : Rest) →
+        IsSettledAt n turns losses first → IsSettledAt n turns losses second → SeesAll turns losses first →
+        IsLater callers first second → lost_between first second losses ≤ calls_between callers first second - n }
+    ensures none { (n callers : ℕ) (turns : List Turn) (losses : List Loss) (first second : Rest) →
+        IsSettledAt n turns losses first → IsSettledAt n turns losses second → SeesAll turns losses first →
+        IsLater callers first second → calls_between callers first second ≤ n → lost_between first second losses ≡ 0 }
+    ensures least { (n callers : ℕ) (turns : List Turn) (losses : List Loss) (first second : Rest) →
+        IsSettledAt n turns losses first → IsSettledAt n turns losses second → IsLater callers first second →
+        AllByRecursion (λ turn. length turn.entries ≤ n) turns →
+        calls_between callers first second - n * (second.turns - first.turns) ≤ lost_between first second losses }
+{}
+
+/// Each entry of the turns between two rests is that of a call that was made between them.
+pub fn entries_stand_in_turns_of_their_own_round()
+    ensures { (n callers : ℕ) (turns : List Turn) (losses : List Loss) (first second : Rest) →
+        IsSettledAt n turns losses first → IsSettledAt n turns losses second → IsLater callers first second →
+        (e : Entry (List ℕ)) → StandsIn (entries_of (turns_between first second turns)) e →
+        (first.calls e.caller ≤ e.call) × (e.call < second.calls e.caller) }
 {}

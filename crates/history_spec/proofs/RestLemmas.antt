@@ -1,0 +1,142 @@
+-- What two rests tell of the calls, the turns and the losses between them.
+use Rattle.history_spec.proofs.Names.{◌≡◌, ℕ, zero, suc, ◌+◌, ◌-◌, ◌*◌, ◌<◌, ◌≤◌, ◌==◌, nat_lt, Bool, true, false, List, [], ◌∷◌, ◌++◌, length, map, filter, take, drop, refl, ap, ◌∙◌, inl, inr, arith, length-append, cases_Bool, cases_lt, ltb-false, length-map, filter-append, map-append, eq-eqb, Turn, entries_of, Entry, Loss, AreMerged, entries_by, calls_of, StandsIn, times, some-injective, Rest, lost_by, IsSettledAt, SeesAll, IsLater, calls_between, lost_between, turns_between, AllByRecursion}
+use Rattle.history_spec.specs.Losses.{lost_calls_of, entries_before}
+use Rattle.history_spec.proofs.PlaceLemmas.{stands_kept}
+use Rattle.history_spec.proofs.TotalLemmas.{times-append, below, below_more, none_below, all_below, as_many}
+use Rattle.std.proofs.Math.Nat.{mul-suc}
+use Rattle.std.proofs.Math.Seq.{take-add}
+use Rattle.std.proofs.lemmas.Grind.{flat_map-append}
+
+-- ---- lists
+
+module _ {A : Type 0} where
+  -- an owner has as many calls as things are its own
+  of_owner : (owner call : A → ℕ) (c : ℕ) (xs : List A) → length (map call (filter (λ x. c == owner x) xs)) ≡ times c (map owner xs)
+  of_owner owner call c [] = refl
+  of_owner owner call c (x ∷ xs) = let rest = of_owner owner call c xs in grind (arith, rest)
+
+  -- where a second test keeps more, it keeps one that the first does not
+  one_more : (p q : A → Bool) (xs : List A) → length (filter p xs) < length (filter q xs)
+      → (x : A) × StandsIn xs x × (p x ≡ false) × (q x ≡ true)
+  one_more p q [] less = absurd (omega arith)
+  one_more p q (x ∷ xs) less = elim (cases_lt (length (filter p xs)) (length (filter q xs))) [
+    | inl fewer ↦ let rest = one_more p q xs fewer in (rest.0, (suc rest.1.0, rest.1.1), rest.2, rest.3)
+    | inr fewer ↦ (x, (0, refl), grind (arith, cases_Bool (p x), cases_Bool (q x)), grind (arith, cases_Bool (p x), cases_Bool (q x)))
+  ]
+
+-- a number that stands in a list is counted
+counted_where_stands : {A : Type 0} (f : A → ℕ) (xs : List A) (x : A) → StandsIn xs x → 0 < times (f x) (map f xs)
+counted_where_stands f [] x (place, at) = cc
+counted_where_stands f (y ∷ xs) x (zero, at) = grind (arith, ap f (some-injective y x at))
+counted_where_stands f (y ∷ xs) x (suc place, at) = omega (arith, counted_where_stands f xs x (place, at))
+
+-- ---- turns
+
+-- the entries up to a later turn, in two parts
+in_parts : (k m : ℕ) (turns : List Turn) → k ≤ m
+    → entries_of (take m turns) ≡ entries_of (take k turns) ++ entries_of (take (m - k) (drop k turns))
+in_parts k m turns le =
+    ap (λ x. entries_of (take x turns)) (omega arith) ∙ ap entries_of (take-add k (m - k) turns) ∙ flat_map-append _ (take k turns) _
+
+-- d turns that have at most n entries each
+few_entries : (n k d : ℕ) (turns : List Turn) → AllByRecursion (λ turn. length turn.entries ≤ n) turns
+    → length (entries_of (take d (drop k turns))) ≤ n * d
+few_entries n k zero turns few = omega arith
+few_entries n zero (suc d) [] few = omega arith
+few_entries n (suc k) (suc d) [] few = omega arith
+few_entries n zero (suc d) (turn ∷ turns) few =
+    omega (arith, length-append turn.entries (entries_of (take d turns)), mul-suc n d, few_entries n zero d turns few.1, few.0)
+few_entries n (suc k) (suc d) (turn ∷ turns) few = few_entries n k (suc d) turns few.1
+
+-- ---- calls
+
+-- each call of a caller is one entry or one loss
+own_calls : {n : ℕ} {calls : ℕ → ℕ} {turns : List Turn} {losses : List Loss} → AreMerged n calls turns losses → (c : ℕ)
+    → times c (map (λ e. e.caller) (entries_of turns)) + times c (map (λ (loss : Loss). loss.caller) losses) ≡ calls c
+own_calls {n} {calls} {turns} {losses} merged c =
+    let mine = calls_of c (entries_of turns) in
+    let lost = lost_calls_of c losses in
+    let all = as_many (calls c) (mine ++ lost) (λ x. omega (arith, times-append x mine lost, merged.each_once c x)) in
+    omega (arith, all, length-append mine lost, of_owner (λ (e : Entry (List ℕ)). e.caller) (λ e. e.call) c (entries_of turns), of_owner (λ (loss : Loss). loss.caller) (λ loss. loss.call) c losses)
+
+module _ (n callers : ℕ) (turns : List Turn) (losses : List Loss) (first second : Rest)
+    (settled : IsSettledAt n turns losses first) (later : IsSettledAt n turns losses second) (is_later : IsLater callers first second) where
+  abbrev own_entries : Rest → List ℕ
+  own_entries rest = map (λ e. e.caller) (entries_of (take rest.turns turns))
+
+  abbrev own_losses : Rest → List ℕ
+  own_losses rest = map (λ loss. loss.caller) (lost_by rest losses)
+
+  calls_of_some : (k : ℕ) → below k (own_entries first) + below k (own_losses first) + calls_between k first second
+      ≡ below k (own_entries second) + below k (own_losses second)
+  calls_of_some zero = omega (arith, none_below)
+  calls_of_some (suc c) =
+      let rest = calls_of_some c in
+      omega (arith, below_more, rest, own_calls settled c, own_calls later c, is_later.calls_rise c)
+
+  -- all calls up to a rest are the entries of its turns and its losses
+  no_others : (rest : Rest) → IsSettledAt n turns losses rest → ((c : ℕ) → callers ≤ c → rest.calls c ≡ 0)
+      → below callers (own_entries rest) + below callers (own_losses rest)
+      ≡ entries_before rest.turns turns + length (lost_by rest losses)
+  no_others rest at none =
+      let entries = entries_of (take rest.turns turns) in
+      omega (
+        arith,
+        all_below callers (own_entries rest) (λ c more. omega (arith, own_calls at c, none c more)),
+        all_below callers (own_losses rest) (λ c more. omega (arith, own_calls at c, none c more)),
+        length-map entries (λ e. e.caller),
+        length-map (lost_by rest losses) (λ loss. loss.caller),
+      )
+
+  all_calls : entries_before first.turns turns + length (lost_by first losses) + calls_between callers first second
+      ≡ entries_before second.turns turns + length (lost_by second losses)
+  all_calls = omega (
+    arith,
+    calls_of_some callers,
+    no_others first settled (λ c more. omega (arith, is_later.calls_rise c, is_later.no_others c more)),
+    no_others second later is_later.no_others,
+  )
+
+  -- where a call between the rests was lost, at least n of them were accepted
+  some_accepted : SeesAll turns losses first → length (lost_by first losses) < length (lost_by second losses)
+      → entries_before first.turns turns + n ≤ entries_before second.turns turns
+  some_accepted sees less =
+      let by_first = λ (loss : Loss). nat_lt loss.call (first.calls loss.caller) in
+      let by_second = λ (loss : Loss). nat_lt loss.call (second.calls loss.caller) in
+      let lost = one_more by_first by_second losses less in
+      let saw = sees lost.0 lost.1 (ltb-false _ _ lost.2) in
+      let legal = later.legal lost.0 (stands_kept by_second losses lost.0 lost.1 lost.3) in
+      omega (arith, saw, legal.claimed)
+
+  pub most : SeesAll turns losses first → lost_between first second losses ≤ calls_between callers first second - n
+  most sees = elim (cases_lt (length (lost_by first losses)) (length (lost_by second losses))) [
+    | inl less ↦ omega (arith, all_calls, some_accepted sees less)
+    | inr fewer ↦ omega arith
+  ]
+
+  two_parts : entries_of (take second.turns turns) ≡ entries_of (take first.turns turns) ++ entries_of (turns_between first second turns)
+  two_parts = in_parts first.turns second.turns turns is_later.turns_rise
+
+  pub least : AllByRecursion (λ turn. length turn.entries ≤ n) turns
+      → calls_between callers first second - n * (second.turns - first.turns) ≤ lost_between first second losses
+  least few =
+      let more = few_entries n first.turns (second.turns - first.turns) turns few in
+      omega (arith, all_calls, more, ap length two_parts, length-append (entries_of (take first.turns turns)))
+
+  -- what was lost by the first rest was lost by the second
+  lost_still : (c x : ℕ) (some_losses : List Loss) → times x (lost_calls_of c (lost_by first some_losses)) ≤ times x (lost_calls_of c (lost_by second some_losses))
+  lost_still c x [] = omega arith
+  lost_still c x (loss ∷ losses) = grind (arith, lost_still c x losses, is_later.calls_rise loss.caller)
+
+  pub own_round : (e : Entry (List ℕ)) → StandsIn (entries_of (turns_between first second turns)) e
+      → (first.calls e.caller ≤ e.call) × (e.call < second.calls e.caller)
+  own_round e stands =
+      let c = e.caller in
+      let between = entries_of (turns_between first second turns) in
+      let kept = stands_kept (λ (x : Entry (List ℕ)). c == x.caller) between e stands (eq-eqb c c refl) in
+      let there = counted_where_stands (λ (x : Entry (List ℕ)). x.call) (entries_by c between) e kept in
+      let by_second = later.each_once c e.call in
+      let once = rw (two_parts, filter-append, map-append, times-append) at by_second in
+      let by_first = settled.each_once c e.call in
+      let still = lost_still c e.call losses in
+      (grind (arith, there, once, by_first, still), grind (arith, there, once))
