@@ -33,7 +33,7 @@ counted_where_stands f (y ∷ xs) x (suc place, at) = omega (arith, counted_wher
 -- ---- turns
 
 -- the entries up to a later turn, in two parts
-in_parts : (k m : ℕ) (turns : List Turn) → k ≤ m
+pub in_parts : (k m : ℕ) (turns : List Turn) → k ≤ m
     → entries_of (take m turns) ≡ entries_of (take k turns) ++ entries_of (take (m - k) (drop k turns))
 in_parts k m turns le =
     ap (λ x. entries_of (take x turns)) (omega arith) ∙ ap entries_of (take-add k (m - k) turns) ∙ flat_map-append _ (take k turns) _

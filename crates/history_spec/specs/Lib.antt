@@ -1,3 +1,4 @@
+pub mod ClassRests
 pub mod Contexts
 pub mod Decided
 pub mod Follows
@@ -9,6 +10,7 @@ pub mod Orders
 pub mod Rests
 pub mod Rounds
 pub mod Settled
+pub use Rattle.history_spec.specs.ClassRests.{context_of, fitting_class, kept_class, needing, missing_in, ClassRest, claimed_at, free_at, ClassesRested, entries_between, AskInOrder, from_class, greatest, too_many}
 pub use Rattle.history_spec.specs.Contexts.{class_at, too_small, claim_in, claim_of, claims_of, misses_context, Misses, IsLegalMiss}
 pub use Rattle.history_spec.specs.Decided.{tickets_from, tickets_of, IsDecided, fates_of, AreDecided, losses_from, all_losses}
 pub use Rattle.history_spec.specs.Follows.{Calls, lost_number, LostAtMost, KeptAsks, CarriedAsks, CallAsks}

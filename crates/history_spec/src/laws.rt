@@ -5,7 +5,7 @@ ghost use Rattle.std.specs.List.{AllByRecursion};
 ghost use Rattle.ids_types.specs.{Turn, entries_of, Fate};
 ghost use Rattle.history_spec.specs.Names.{Entry, Loss};
 ghost use Rattle.ids_config.specs.Parts.{Parts};
-ghost use Rattle.history_spec.specs.{AreDecided, all_losses, Calls, fronts_from, IsFront, AreMerged, StandsIn, AreSettled, AreLegalContexts, Rest, IsSettledAt, SeesAll, IsLater, calls_between, lost_between, turns_between};
+ghost use Rattle.history_spec.specs.{AreDecided, all_losses, Calls, fronts_from, IsFront, AreMerged, StandsIn, AreSettled, AreLegalContexts, Rest, IsSettledAt, SeesAll, IsLater, calls_between, lost_between, turns_between, needing, missing_in, ClassRest, claimed_at, free_at, ClassesRested, entries_between, AskInOrder, from_class, greatest, too_many};
 
 /// Where the logs of the class rings are settled and follow what the calls asked, the claims of the history
 /// stand in it once and in order, and each missing context is legal.
@@ -51,4 +51,22 @@ pub fn entries_stand_in_turns_of_their_own_round()
         IsSettledAt n turns losses first → IsSettledAt n turns losses second → IsLater callers first second →
         (e : Entry (List ℕ)) → StandsIn (entries_of (turns_between first second turns)) e →
         (first.calls e.caller ≤ e.call) × (e.call < second.calls e.caller) }
+{}
+
+/// Of the contexts between two rests that fit a class, at most so many are missing: for each class, take how many need it
+/// or a larger one, less the buffers of these classes that were free at the first rest. The greatest of these is the bound,
+/// and none is missing if each is 0. Just so many are if no more buffers are claimed than were offered at the first rest.
+pub fn a_round_misses_at_most_what_it_has_too_many()
+    ensures most { (config : Parts) (turns : List Turn) (log : ℕ → ℕ → List Fate) (first second : ClassRest) →
+        ClassesRested turns log first → ClassesRested turns log second → AskInOrder config turns log first second →
+        missing_in config (entries_between turns first second) ≤ greatest (length config.classes) (too_many config turns first second) }
+    ensures none { (config : Parts) (turns : List Turn) (log : ℕ → ℕ → List Fate) (first second : ClassRest) →
+        ClassesRested turns log first → ClassesRested turns log second → AskInOrder config turns log first second →
+        ((i : ℕ) → i < length config.classes → needing config i (entries_between turns first second)
+        ≤ from_class i (length config.classes) (free_at turns first)) →
+        missing_in config (entries_between turns first second) ≡ 0 }
+    ensures just { (config : Parts) (turns : List Turn) (log : ℕ → ℕ → List Fate) (first second : ClassRest) →
+        ClassesRested turns log first → ClassesRested turns log second → AskInOrder config turns log first second →
+        ((i : ℕ) → i < length config.classes → claimed_at turns second i ≤ first.offered i) →
+        missing_in config (entries_between turns first second) ≡ greatest (length config.classes) (too_many config turns first second) }
 {}

@@ -1,0 +1,129 @@
+-- Which contexts go without a buffer between two rests.
+use Rattle.history_spec.proofs.Names.{◌≡◌, ℕ, zero, suc, ◌+◌, ◌<◌, ◌≤◌, ◌⊎◌, ◌==◌, ◌&&◌, nat_lt, nat_le, if◌then◌else◌, List, [], ◌∷◌, length, take, refl, inl, inr, arith, length-append, cases_lt, cases_eq, Turn, entries_of, Entry, Act, Report, Absent, Kept, Missing, State, SetMode, Fate, Parts, claim_of, claims_of, StandsIn}
+use Rattle.history_spec.specs.ClassRests.{context_of, fitting_class, kept_class, needing, missing_in, ClassRest, claimed_at, free_at, ClassesRested, entries_between, AskInOrder, from_class, greatest, too_many}
+use Rattle.history_spec.proofs.RestLemmas.{in_parts}
+use Rattle.std.proofs.lemmas.Grind.{flat_map-append}
+
+-- ---- sums over classes
+
+from_le : (i n : ℕ) (f g : ℕ → ℕ) → ((j : ℕ) → i ≤ j → j < n → f j ≤ g j) → from_class i n f ≤ from_class i n g
+from_le i zero f g le = omega arith
+from_le i (suc n) f g le = grind (arith, from_le i n f g (λ j low less. le j low (omega arith)), le n)
+
+pub greatest_le : (n m : ℕ) (f : ℕ → ℕ) → ((j : ℕ) → j < n → f j ≤ m) → greatest n f ≤ m
+greatest_le zero m f le = omega arith
+greatest_le (suc n) m f le = omega (arith, greatest_le n m f (λ j less. le j (omega arith)), le n (omega arith))
+
+le_greatest : (n j : ℕ) (f : ℕ → ℕ) → j < n → f j ≤ greatest n f
+le_greatest zero j f less = absurd (omega arith)
+le_greatest (suc n) j f less = elim (cases_eq j n) [
+  | inl is ↦ rw is (omega arith)
+  | inr other ↦ omega (arith, le_greatest n j f (omega (arith, other)))
+]
+
+-- there is a class from which on f is at most g, and not so at the one before it
+last_above : (n i : ℕ) (f g : ℕ → ℕ) → i ≤ n → ((j : ℕ) → i ≤ j → j < n → f j ≤ g j)
+    → (k : ℕ) × (k ≤ n) × ((j : ℕ) → k ≤ j → j < n → f j ≤ g j) × ((j : ℕ) → suc j ≡ k → g j < f j)
+last_above n zero f g le all = (0, omega arith, all, λ j is. absurd (omega arith))
+last_above n (suc i) f g le all = elim (cases_lt (g i) (f i)) [
+  | inl above ↦ (suc i, le, all, λ j is. let same : j ≡ i = omega arith in rw same above)
+  | inr more ↦ last_above n i f g (omega arith) (λ j low less. elim (cases_eq j i) [
+    | inl is ↦ rw is more
+    | inr other ↦ all j (omega (arith, other)) less
+  ])
+]
+
+module _ (config : Parts) where
+  -- an entry claims a buffer of the class that keeps its context
+  one_claim : (j : ℕ) (act : Act (List ℕ)) → j < length config.classes
+      → length (claim_of j act) ≡ (if kept_class config (context_of act) == j then 1 else 0)
+  one_claim j (Report event count stamp Absent) less = grind arith
+  one_claim j (Report event count stamp (Kept class claim bytes)) less = grind arith
+  one_claim j (Report event count stamp (Missing numbers)) less = grind arith
+  one_claim j (State state) less = grind arith
+  one_claim j (SetMode event mode) less = grind arith
+
+  own_claims : (i n : ℕ) (act : Act (List ℕ)) → n ≤ length config.classes → let kept = kept_class config (context_of act) in
+      from_class i n (λ j. length (claim_of j act)) ≡ (if nat_le i kept && nat_lt kept n then 1 else 0)
+  own_claims i zero act le = grind arith
+  own_claims i (suc n) act le = grind (arith, own_claims i n act (omega arith), one_claim n act)
+
+  more_claims : (i n : ℕ) (e : Entry (List ℕ)) (es : List (Entry (List ℕ))) → from_class i n (λ j. length (claims_of j (e ∷ es)))
+      ≡ from_class i n (λ j. length (claim_of j e.act)) + from_class i n (λ j. length (claims_of j es))
+  more_claims i zero e es = omega arith
+  more_claims i (suc n) e es = grind (arith, more_claims i n e es, length-append (claim_of n e.act) (claims_of n es))
+
+  -- where no context was passed on to class i, those that are kept there or in a larger one needed it, and so did the missing ones
+  few_missing : (i : ℕ) (es : List (Entry (List ℕ))) → i ≤ length config.classes → ((e : Entry (List ℕ)) → StandsIn es e
+      → (i ≤ fitting_class config (context_of e.act)) ⊎ (kept_class config (context_of e.act) < i))
+      → ((e : Entry (List ℕ)) → StandsIn es e → fitting_class config (context_of e.act) ≤ kept_class config (context_of e.act))
+      → missing_in config es + from_class i (length config.classes) (λ j. length (claims_of j es)) ≤ needing config i es
+  few_missing i [] le none fits = let nothing = own_claims i (length config.classes) (State 0) (omega arith) in grind (arith, nothing)
+  few_missing i (e ∷ es) le none fits =
+      let K = length config.classes in
+      let rest = few_missing i es le (λ x at. none x (suc at.0, at.1)) (λ x at. fits x (suc at.0, at.1)) in
+      grind (arith, rest, more_claims i K e es, own_claims i K e.act, none e (0, refl), fits e (0, refl))
+
+  many_missing : (i : ℕ) (es : List (Entry (List ℕ)))
+      → ((e : Entry (List ℕ)) → StandsIn es e → fitting_class config (context_of e.act) ≤ kept_class config (context_of e.act))
+      → needing config i es ≤ missing_in config es + from_class i (length config.classes) (λ j. length (claims_of j es))
+  many_missing i [] fits = omega arith
+  many_missing i (e ∷ es) fits =
+      let K = length config.classes in
+      let rest = many_missing i es (λ x at. fits x (suc at.0, at.1)) in
+      grind (arith, rest, more_claims i K e es, own_claims i K e.act, fits e (0, refl))
+
+  none_need : (i : ℕ) (es : List (Entry (List ℕ))) → length config.classes ≤ i → needing config i es ≡ 0
+  none_need i [] beyond = refl
+  none_need i (e ∷ es) beyond = grind (arith, none_need i es beyond)
+
+  module _ (turns : List Turn) (log : ℕ → ℕ → List Fate) (first second : ClassRest)
+      (before : ClassesRested turns log first) (after : ClassesRested turns log second) (asks : AskInOrder config turns log first second) where
+    abbrev es : List (Entry (List ℕ))
+    es = entries_between turns first second
+
+    abbrev K : ℕ
+    K = length config.classes
+
+    -- what was claimed by the second rest
+    claimed_more : (j : ℕ) → claimed_at turns second j ≡ claimed_at turns first j + length (claims_of j es)
+    claimed_more j =
+        let old = entries_of (take first.rest.turns turns) in
+        rw (in_parts first.rest.turns second.rest.turns turns asks.turns_rise, flat_map-append) (length-append (claims_of j old) (claims_of j es))
+
+    all_out : (e : Entry (List ℕ)) (j : ℕ) → StandsIn es e → fitting_class config (context_of e.act) ≤ j
+        → j < kept_class config (context_of e.act) → first.offered j ≤ claimed_at turns second j
+    all_out e j stands fits less =
+        let lost = asks.in_vain e j stands fits less in
+        omega (arith, before.sees e.caller j lost.0 lost.1 lost.2 lost.4, after.settled e.caller j lost.0 lost.1 lost.3 lost.4)
+
+    -- no context was passed on by the class before i, if not all was out there
+    not_passed : (i : ℕ) → ((j : ℕ) → suc j ≡ i → claimed_at turns second j < first.offered j) → (e : Entry (List ℕ)) → StandsIn es e
+        → (i ≤ fitting_class config (context_of e.act)) ⊎ (kept_class config (context_of e.act) < i)
+    not_passed zero left e at = inl (omega arith)
+    not_passed (suc j) left e at =
+        elim (cases_lt j (fitting_class config (context_of e.act))) [
+          | inl above ↦ inl above
+          | inr fits ↦ elim (cases_lt j (kept_class config (context_of e.act))) [
+            | inl passed ↦ absurd (omega (arith, left j refl, all_out e j at fits passed))
+            | inr kept ↦ inr (omega arith)
+          ]
+        ]
+
+    pub most : missing_in config es ≤ greatest K (too_many config turns first second)
+    most =
+        let (i, within, all, left) = last_above K K first.offered (claimed_at turns second) (omega arith) (λ j low less. absurd (omega arith)) in
+        let few = few_missing i es within (not_passed i left) asks.fits in
+        let free = from_le i K (free_at turns first) (λ j. length (claims_of j es)) (λ j low less. omega (arith, all j low less, claimed_more j)) in
+        elim (cases_lt i K) [
+          | inl less ↦ omega (arith, few, free, le_greatest K i (too_many config turns first second) less)
+          | inr beyond ↦ omega (arith, few, none_need i es beyond)
+        ]
+
+    pub just : ((j : ℕ) → j < K → claimed_at turns second j ≤ first.offered j) → missing_in config es ≡ greatest K (too_many config turns first second)
+    just within =
+        let least = greatest_le K (missing_in config es) (too_many config turns first second) (λ i less.
+        let many = many_missing i es asks.fits in
+        let free = from_le i K (λ j. length (claims_of j es)) (free_at turns first) (λ j low less. omega (arith, within j less, claimed_more j)) in
+        omega (arith, many, free)) in
+        omega (arith, least, most)
