@@ -1,7 +1,6 @@
 -- What decided calls make of a history and its losses.
-use Rattle.history_spec.proofs.Names.{◌≡◌, ℕ, zero, suc, ◌+◌, ◌≤◌, ◌==◌, List, [], ◌∷◌, map, refl, inr, sym, eq-eqb, arith, Turn, entries_of, Entry, Loss, fates_of, AreDecided, tickets_from, tickets_of, IsDecided, losses_from, all_losses, Fate, lost, accepted, calls_of, losses_by, IsTicket, IsLegalLoss, AreMerged, StandsIn, times, once_below, RiseFrom, length, cond_both, ap, ◌∙◌, some, some-injective, get_elem?, fate_within, fates_in_order}
-use Rattle.history_spec.proofs.LossLemmas.{of_caller, loss_is, givens_keep_up, losses_ordered}
-use Rattle.history_spec.proofs.PlaceLemmas.{stands_kept}
+use Rattle.history_spec.proofs.Names.{◌≡◌, ℕ, zero, suc, ◌+◌, ◌≤◌, ◌==◌, List, [], ◌∷◌, map, refl, inr, sym, eq-eqb, arith, Turn, entries_of, Entry, Loss, fates_of, AreDecided, tickets_from, tickets_of, IsDecided, losses_from, all_losses, Fate, lost, accepted, calls_of, IsTicket, IsLegalLoss, AreMerged, StandsIn, times, once_below, RiseFrom, length, cond_both, ap, ◌∙◌, some, some-injective, get_elem?, fate_within, fates_in_order}
+use Rattle.history_spec.proofs.LossLemmas.{own_losses, stands_own, loss_is, givens_keep_up, losses_ordered}
 
 -- the calls of a caller's entries are those with tickets
 calls_with_tickets : (c ticket : ℕ) (es : List (Entry (List ℕ))) → calls_of c es ≡ map (λ p. p.0) (tickets_of c ticket es)
@@ -80,17 +79,13 @@ module _ (n : ℕ) (turns : List Turn) where
     calls_are : (c : ℕ) → calls_of c (entries_of turns) ≡ map (λ p. p.0) (tickets_from 0 (fates_of callers c))
     calls_are c = calls_with_tickets c 0 (entries_of turns) ∙ sym (ap (map (λ p. p.0)) (decided c).are_entries)
 
-    own_losses : (c : ℕ) → losses_by c (all_losses n 0 callers) ≡ losses_from n c 0 (fates_of callers c)
-    own_losses c = grind (arith, of_caller n c 0 callers)
-
     pub are_merged : AreMerged n calls turns (all_losses n 0 callers)
     are_merged = record {
-      each_once = λ c call. rw (calls_are c, own_losses c)
+      each_once = λ c call. rw (calls_are c, own_losses n c callers)
           (let each = each_decided n call c 0 (fates_of callers c) in grind (arith, each, (decided c).calls_are));
       in_order = λ c. rw (calls_are c) (calls_rise 0 0 (fates_of callers c) (omega arith));
       legal = λ loss stands. legal_loss loss (calls loss.caller) (fates_of callers loss.caller) (decided loss.caller)
-          (rw (own_losses loss.caller) at (stands_kept (λ (l : Loss). loss.caller == l.caller) (all_losses n 0 callers) loss stands
-          (eq-eqb loss.caller loss.caller refl)));
-      looks_keep_up = λ c. rw (own_losses c) (givens_keep_up n 0 c 0 0 (fates_of callers c) (omega arith) (decided c).decided.rises);
+          (stands_own n callers loss stands);
+      looks_keep_up = λ c. rw (own_losses n c callers) (givens_keep_up n 0 c 0 0 (fates_of callers c) (omega arith) (decided c).decided.rises);
       losses_in_order = losses_ordered n 0 callers 0 0 (inr (refl, omega arith));
     }

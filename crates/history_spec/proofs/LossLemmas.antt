@@ -1,5 +1,7 @@
 -- The list of all callers' losses.
-use Rattle.history_spec.proofs.Names.{◌≡◌, ℕ, zero, suc, ◌+◌, ◌-◌, ◌<◌, ◌≤◌, ◌⊎◌, ◌==◌, nat_lt, if◌then◌else◌, List, [], ◌∷◌, ◌++◌, map, get_or, refl, inl, inr, arith, append-nil, Loss, losses_from, all_losses, Fate, lost, accepted, FatesFrom, losses_by, StandsIn, KeepUpFrom, LossesFrom, common_steps, some, some-injective, get_elem?}
+use Rattle.history_spec.proofs.Names.{◌≡◌, ℕ, zero, suc, ◌+◌, ◌-◌, ◌<◌, ◌≤◌, ◌⊎◌, ◌==◌, nat_lt, if◌then◌else◌, List, [], ◌∷◌, ◌++◌, map, get_or, refl, inl, inr, arith, append-nil, Loss, losses_from, all_losses, Fate, lost, accepted, FatesFrom, losses_by, StandsIn, KeepUpFrom, LossesFrom, common_steps, some, some-injective, get_elem?, length, take, eq-eqb, fates_of, filter-append, Turn, Rest, lost_by, Rested, start, AreMerged}
+use Rattle.history_spec.proofs.PlaceLemmas.{stands_kept}
+use Rattle.history_spec.specs.Losses.{entries_before}
 
 module _ (n : ℕ) where
   -- ---- the losses of one caller among all
@@ -14,6 +16,14 @@ module _ (n : ℕ) where
       ≡ (if nat_lt c d then [] else losses_from n c 0 (get_or callers (c - d) []))
   of_caller c d [] = grind arith
   of_caller c d (fates ∷ callers) = grind (arith, common_steps, of_caller c (suc d) callers, in_two c d 0 fates (all_losses n (suc d) callers), append-nil)
+
+  pub own_losses : (c : ℕ) (callers : List (List Fate)) → losses_by c (all_losses n 0 callers) ≡ losses_from n c 0 (fates_of callers c)
+  own_losses c callers = grind (arith, of_caller c 0 callers)
+
+  pub stands_own : (callers : List (List Fate)) (loss : Loss) → StandsIn (all_losses n 0 callers) loss
+      → StandsIn (losses_from n loss.caller 0 (fates_of callers loss.caller)) loss
+  stands_own callers loss stands = rw (own_losses loss.caller callers)
+      at (stands_kept (λ (l : Loss). loss.caller == l.caller) (all_losses n 0 callers) loss stands (eq-eqb loss.caller loss.caller refl))
 
   -- a loss is a lost call
   pub loss_is : (c call : ℕ) (fates : List Fate) (loss : Loss) → StandsIn (losses_from n c call fates) loss → (place : ℕ) × (claimed : ℕ)
@@ -50,3 +60,53 @@ module _ (n : ℕ) where
   losses_ordered d [] c call before = tt
   losses_ordered d (fates ∷ callers) c call before = caller_first d (all_losses n (suc d) callers)
       (λ b j le. losses_ordered (suc d) callers b j (inl (omega arith))) c call 0 fates before
+
+  -- ---- what was lost by a rest
+
+  first_lost : (rest : Rest) (c call k : ℕ) (fates : List Fate) → rest.calls c - call ≡ k
+      → lost_by rest (losses_from n c call fates) ≡ losses_from n c call (take k fates)
+  first_lost rest c call k [] is = grind (arith, common_steps)
+  first_lost rest c call zero (lost claimed ∷ fates) is = grind (arith, first_lost rest c (suc call) 0 fates (omega arith))
+  first_lost rest c call (suc k) (lost claimed ∷ fates) is = grind (arith, first_lost rest c (suc call) k fates (omega arith))
+  first_lost rest c call zero (accepted ticket ∷ fates) is = grind (arith, first_lost rest c (suc call) 0 fates (omega arith))
+  first_lost rest c call (suc k) (accepted ticket ∷ fates) is = grind (arith, first_lost rest c (suc call) k fates (omega arith))
+
+  all_lost : (rest : Rest) (d : ℕ) (callers early : List (List Fate)) → length early ≡ length callers
+      → ((c i : ℕ) → c ≡ d + i → fates_of early i ≡ take (rest.calls c) (fates_of callers i))
+      → lost_by rest (all_losses n d callers) ≡ all_losses n d early
+  all_lost rest d [] [] same firsts = refl
+  all_lost rest d [] (early ∷ others) same firsts = absurd (omega arith)
+  all_lost rest d (fates ∷ callers) [] same firsts = absurd (omega arith)
+  all_lost rest d (fates ∷ callers) (early ∷ others) same firsts =
+      let behind = all_lost rest (suc d) callers others (omega arith) (λ c i is. firsts c (suc i) (omega arith)) in
+      grind (arith, filter-append, firsts d 0, first_lost rest d 0 (rest.calls d) fates, behind)
+
+  pub rested : (turns : List Turn) (callers early : List (List Fate)) (rest : Rest) → length early ≡ length callers
+      → ((caller : ℕ) → fates_of early caller ≡ take (rest.calls caller) (fates_of callers caller))
+      → AreMerged n rest.calls (take rest.turns turns) (all_losses n 0 early)
+      → ((caller call claimed : ℕ) → get_elem? (fates_of callers caller) call ≡ some (lost claimed) → rest.calls caller ≤ call
+      → entries_before rest.turns turns + n ≤ claimed)
+      → Rested n turns (all_losses n 0 callers) rest
+  rested turns callers early rest same firsts merged later = record {
+    settled = rw (all_lost rest 0 callers early same (λ c i is. grind (arith, firsts i, is))) merged;
+    sees = λ loss stands after.
+        let its = loss_is loss.caller 0 (fates_of callers loss.caller) loss (stands_own callers loss stands) in
+        omega (arith, later loss.caller its.0 its.1 its.2 (omega (arith, its.3)), its.4);
+  }
+
+-- before all calls and turns, nothing is lost
+none_lost : (losses : List Loss) → lost_by start losses ≡ []
+none_lost [] = refl
+none_lost (loss ∷ losses) = grind (arith, none_lost losses)
+
+pub rested_at_start : (n : ℕ) (turns : List Turn) (losses : List Loss) → Rested n turns losses start
+rested_at_start n turns losses = record {
+  settled = rw (none_lost losses) (record {
+    each_once = λ c call. grind arith;
+    in_order = λ c. tt;
+    legal = λ loss stands. cc;
+    looks_keep_up = λ c. tt;
+    losses_in_order = tt;
+  });
+  sees = λ loss stands after. omega arith;
+}

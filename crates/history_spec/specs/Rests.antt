@@ -11,6 +11,10 @@ pub record Rest : Type 0 where
   pub turns : ℕ
   pub calls : ℕ → ℕ
 
+-- the rest before all turns and calls
+abbrev pub start : Rest
+start = record { turns = 0; calls = λ caller. 0 }
+
 -- the losses of calls that were made by then
 abbrev pub lost_by : Rest → List Loss → List Loss
 lost_by rest losses = filter (λ loss. nat_lt loss.call (rest.calls loss.caller)) losses

@@ -1,11 +1,13 @@
 //! What the logs of rings make of a history: each function has a law as its contract, and no body.
 
-ghost use Rattle.std.specs.Prelude.{◌≡◌, ℕ, ◌-◌, ◌*◌, ◌<◌, ◌≤◌, List, [], ◌∷◌, length};
+ghost use Rattle.std.specs.Prelude.{◌≡◌, ℕ, ◌+◌, ◌-◌, ◌*◌, ◌<◌, ◌≤◌, List, [], ◌∷◌, length, take};
 ghost use Rattle.std.specs.List.{AllByRecursion};
-ghost use Rattle.ids_types.specs.{Turn, entries_of, Fate};
+ghost use Rattle.ids_types.specs.{Turn, entries_of, Fate, lost};
+ghost use mathlib.Core.Option.{some};
+ghost use lib.ListN.{get_elem?};
 ghost use Rattle.history_spec.specs.Names.{Entry, Loss};
 ghost use Rattle.ids_config.specs.Parts.{Parts};
-ghost use Rattle.history_spec.specs.{AreDecided, all_losses, Calls, fronts_from, IsFront, AreMerged, StandsIn, AreSettled, AreLegalContexts, Rest, IsSettledAt, SeesAll, IsLater, calls_between, lost_between, turns_between, needing, missing_in, ClassRest, claimed_at, free_at, ClassesRested, entries_between, AskInOrder, from_class, greatest, too_many};
+ghost use Rattle.history_spec.specs.{AreDecided, fates_of, all_losses, Calls, fronts_from, IsFront, AreMerged, StandsIn, AreSettled, AreLegalContexts, Rest, start, Rested, entries_before, IsSettledAt, SeesAll, IsLater, calls_between, lost_between, turns_between, needing, missing_in, ClassRest, claimed_at, free_at, ClassesRested, entries_between, AskInOrder, from_class, greatest, too_many};
 
 /// Where the logs of the class rings are settled and follow what the calls asked, the claims of the history
 /// stand in it once and in order, and each missing context is legal.
@@ -69,4 +71,17 @@ pub fn a_round_misses_at_most_what_it_has_too_many()
         ClassesRested turns log first → ClassesRested turns log second → AskInOrder config turns log first second →
         ((i : ℕ) → i < length config.classes → claimed_at turns second i ≤ first.offered i) →
         missing_in config (entries_between turns first second) ≡ greatest (length config.classes) (too_many config turns first second) }
+{}
+
+/// A moment is a rest, if the turns so far are one merge of the fates that the calls had by then, and each call that was
+/// lost later saw claimed all that had been offered by then. So is the start.
+pub fn what_had_become_by_a_rest()
+    ensures at_a_rest { (n : ℕ) (turns : List Turn) (callers early : List (List Fate)) (rest : Rest) →
+        length early ≡ length callers →
+        ((caller : ℕ) → fates_of early caller ≡ take (rest.calls caller) (fates_of callers caller)) →
+        AreMerged n rest.calls (take rest.turns turns) (all_losses n 0 early) →
+        ((caller call claimed : ℕ) → get_elem? (fates_of callers caller) call ≡ some (lost claimed) →
+        rest.calls caller ≤ call → entries_before rest.turns turns + n ≤ claimed) →
+        Rested n turns (all_losses n 0 callers) rest }
+    ensures at_start { (n : ℕ) (turns : List Turn) (losses : List Loss) → Rested n turns losses start }
 {}
