@@ -1,5 +1,5 @@
 -- Which contexts go without a buffer between two rests.
-use Rattle.history_spec.proofs.Names.{◌≡◌, ℕ, zero, suc, ◌+◌, ◌<◌, ◌≤◌, ◌⊎◌, ◌==◌, ◌&&◌, nat_lt, nat_le, if◌then◌else◌, List, [], ◌∷◌, length, take, refl, inl, inr, arith, length-append, cases_lt, cases_eq, Turn, entries_of, Entry, Act, Report, Absent, Kept, Missing, State, SetMode, Fate, Parts, claim_of, claims_of, StandsIn}
+use Rattle.history_spec.proofs.Names.{◌≡◌, ℕ, zero, suc, ◌+◌, ◌<◌, ◌≤◌, ◌⊎◌, ◌==◌, ◌&&◌, nat_lt, nat_le, if◌then◌else◌, List, [], ◌∷◌, length, take, refl, inl, inr, arith, length-append, cases_lt, Turn, entries_of, Entry, Act, Report, Kept, State, Fate, Parts, claim_of, claims_of, StandsIn}
 use Rattle.history_spec.specs.ClassRests.{context_of, fitting_class, kept_class, needing, missing_in, ClassRest, claimed_at, free_at, ClassesRested, entries_between, AskInOrder, from_class, greatest, too_many}
 use Rattle.history_spec.proofs.RestLemmas.{in_parts}
 use Rattle.std.proofs.lemmas.Grind.{flat_map-append}
@@ -16,32 +16,14 @@ greatest_le (suc n) m f le = omega (arith, greatest_le n m f (λ j less. le j (o
 
 le_greatest : (n j : ℕ) (f : ℕ → ℕ) → j < n → f j ≤ greatest n f
 le_greatest zero j f less = absurd (omega arith)
-le_greatest (suc n) j f less = elim (cases_eq j n) [
-  | inl is ↦ rw is (omega arith)
-  | inr other ↦ omega (arith, le_greatest n j f (omega (arith, other)))
-]
-
--- there is a class from which on f is at most g, and not so at the one before it
-last_above : (n i : ℕ) (f g : ℕ → ℕ) → i ≤ n → ((j : ℕ) → i ≤ j → j < n → f j ≤ g j)
-    → (k : ℕ) × (k ≤ n) × ((j : ℕ) → k ≤ j → j < n → f j ≤ g j) × ((j : ℕ) → suc j ≡ k → g j < f j)
-last_above n zero f g le all = (0, omega arith, all, λ j is. absurd (omega arith))
-last_above n (suc i) f g le all = elim (cases_lt (g i) (f i)) [
-  | inl above ↦ (suc i, le, all, λ j is. let same : j ≡ i = omega arith in rw same above)
-  | inr more ↦ last_above n i f g (omega arith) (λ j low less. elim (cases_eq j i) [
-    | inl is ↦ rw is more
-    | inr other ↦ all j (omega (arith, other)) less
-  ])
-]
+le_greatest (suc n) j f less = grind (arith, le_greatest n j f)
 
 module _ (config : Parts) where
   -- an entry claims a buffer of the class that keeps its context
   one_claim : (j : ℕ) (act : Act (List ℕ)) → j < length config.classes
       → length (claim_of j act) ≡ (if kept_class config (context_of act) == j then 1 else 0)
-  one_claim j (Report event count stamp Absent) less = grind arith
   one_claim j (Report event count stamp (Kept class claim bytes)) less = grind arith
-  one_claim j (Report event count stamp (Missing numbers)) less = grind arith
-  one_claim j (State state) less = grind arith
-  one_claim j (SetMode event mode) less = grind arith
+  one_claim j act less = grind arith
 
   own_claims : (i n : ℕ) (act : Act (List ℕ)) → n ≤ length config.classes → let kept = kept_class config (context_of act) in
       from_class i n (λ j. length (claim_of j act)) ≡ (if nat_le i kept && nat_lt kept n then 1 else 0)
@@ -97,33 +79,32 @@ module _ (config : Parts) where
         let lost = asks.in_vain e j stands fits less in
         omega (arith, before.sees e.caller j lost.0 lost.1 lost.2 lost.4, after.settled e.caller j lost.0 lost.1 lost.3 lost.4)
 
-    -- no context was passed on by the class before i, if not all was out there
-    not_passed : (i : ℕ) → ((j : ℕ) → suc j ≡ i → claimed_at turns second j < first.offered j) → (e : Entry (List ℕ)) → StandsIn es e
-        → (i ≤ fitting_class config (context_of e.act)) ⊎ (kept_class config (context_of e.act) < i)
-    not_passed zero left e at = inl (omega arith)
-    not_passed (suc j) left e at =
-        elim (cases_lt j (fitting_class config (context_of e.act))) [
-          | inl above ↦ inl above
-          | inr fits ↦ elim (cases_lt j (kept_class config (context_of e.act))) [
-            | inl passed ↦ absurd (omega (arith, left j refl, all_out e j at fits passed))
-            | inr kept ↦ inr (omega arith)
-          ]
-        ]
+    -- where no context was passed on to class i, and all is out from it on
+    bound : (i : ℕ) → i ≤ K → ((j : ℕ) → i ≤ j → j < K → first.offered j ≤ claimed_at turns second j) → ((e : Entry (List ℕ)) → StandsIn es e
+        → (i ≤ fitting_class config (context_of e.act)) ⊎ (kept_class config (context_of e.act) < i)) → missing_in config es ≤ greatest K (too_many config turns first second)
+    bound i le all none =
+        let few = few_missing i es le none asks.fits in
+        let free = from_le i K (free_at turns first) (λ j. length (claims_of j es)) (λ j low less. omega (arith, all j low less, claimed_more j)) in
+        grind (arith, few, free, le_greatest K i (too_many config turns first second), none_need i es)
+
+    most_from : (i : ℕ) → i ≤ K → ((j : ℕ) → i ≤ j → j < K → first.offered j ≤ claimed_at turns second j)
+        → missing_in config es ≤ greatest K (too_many config turns first second)
+    most_from zero le all = bound 0 le all (λ e at. inl (omega arith))
+    most_from (suc i) le all = elim (cases_lt (claimed_at turns second i) (first.offered i)) [
+      | inl left ↦ bound (suc i) le all (λ e at. grind (arith, left, all_out e i at))
+      | inr out ↦ most_from i (omega arith) (λ j low less. grind (arith, out, all j))
+    ]
 
     pub most : missing_in config es ≤ greatest K (too_many config turns first second)
-    most =
-        let (i, within, all, left) = last_above K K first.offered (claimed_at turns second) (omega arith) (λ j low less. absurd (omega arith)) in
-        let few = few_missing i es within (not_passed i left) asks.fits in
-        let free = from_le i K (free_at turns first) (λ j. length (claims_of j es)) (λ j low less. omega (arith, all j low less, claimed_more j)) in
-        elim (cases_lt i K) [
-          | inl less ↦ omega (arith, few, free, le_greatest K i (too_many config turns first second) less)
-          | inr beyond ↦ omega (arith, few, none_need i es beyond)
-        ]
+    most = most_from K (omega arith) (λ j low less. omega arith)
 
     pub just : ((j : ℕ) → j < K → claimed_at turns second j ≤ first.offered j) → missing_in config es ≡ greatest K (too_many config turns first second)
     just within =
         let least = greatest_le K (missing_in config es) (too_many config turns first second) (λ i less.
-        let many = many_missing i es asks.fits in
-        let free = from_le i K (λ j. length (claims_of j es)) (free_at turns first) (λ j low less. omega (arith, within j less, claimed_more j)) in
-        omega (arith, many, free)) in
+        omega (
+          arith,
+          many_missing i es asks.fits,
+          from_le i K (λ j. length (claims_of j es)) (free_at turns first)
+              (λ j low less. omega (arith, within j less, claimed_more j)),
+        )) in
         omega (arith, least, most)

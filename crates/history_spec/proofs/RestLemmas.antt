@@ -1,5 +1,5 @@
 -- What two rests tell of the calls, the turns and the losses between them.
-use Rattle.history_spec.proofs.Names.{◌≡◌, ℕ, zero, suc, ◌+◌, ◌-◌, ◌*◌, ◌<◌, ◌≤◌, ◌==◌, nat_lt, Bool, true, false, List, [], ◌∷◌, ◌++◌, length, map, filter, take, drop, refl, ap, ◌∙◌, inl, inr, arith, length-append, cases_Bool, cases_lt, ltb-false, length-map, filter-append, map-append, eq-eqb, Turn, entries_of, Entry, Loss, AreMerged, entries_by, calls_of, StandsIn, times, some-injective, Rest, lost_by, IsSettledAt, SeesAll, IsLater, calls_between, lost_between, turns_between, AllByRecursion}
+use Rattle.history_spec.proofs.Names.{◌≡◌, ℕ, zero, suc, ◌+◌, ◌-◌, ◌*◌, ◌<◌, ◌≤◌, ◌==◌, nat_lt, Bool, true, false, List, [], ◌∷◌, ◌++◌, length, map, filter, take, drop, refl, ap, ◌∙◌, inl, inr, arith, length-append, cases_Bool, cases_lt, ltb-false, length-map, filter-append, map-append, eq-eqb, Turn, entries_of, Entry, Loss, AreMerged, entries_by, calls_of, StandsIn, times, some-injective, Rest, lost_by, IsSettledAt, SeesAll, IsLater, calls_between, lost_between, turns_between, AllByRecursion, common_steps}
 use Rattle.history_spec.specs.Losses.{lost_calls_of, entries_before}
 use Rattle.history_spec.proofs.PlaceLemmas.{stands_kept}
 use Rattle.history_spec.proofs.TotalLemmas.{times-append, below, below_more, none_below, all_below, as_many}
@@ -41,60 +41,46 @@ in_parts k m turns le =
 -- d turns that have at most n entries each
 few_entries : (n k d : ℕ) (turns : List Turn) → AllByRecursion (λ turn. length turn.entries ≤ n) turns
     → length (entries_of (take d (drop k turns))) ≤ n * d
-few_entries n k zero turns few = omega arith
-few_entries n zero (suc d) [] few = omega arith
-few_entries n (suc k) (suc d) [] few = omega arith
+few_entries n (suc k) d (turn ∷ turns) few = few_entries n k d turns few.1
 few_entries n zero (suc d) (turn ∷ turns) few =
     omega (arith, length-append turn.entries (entries_of (take d turns)), mul-suc n d, few_entries n zero d turns few.1, few.0)
-few_entries n (suc k) (suc d) (turn ∷ turns) few = few_entries n k (suc d) turns few.1
+few_entries n k d turns few = grind (arith, common_steps)
 
 -- ---- calls
 
--- each call of a caller is one entry or one loss
-own_calls : {n : ℕ} {calls : ℕ → ℕ} {turns : List Turn} {losses : List Loss} → AreMerged n calls turns losses → (c : ℕ)
-    → times c (map (λ e. e.caller) (entries_of turns)) + times c (map (λ (loss : Loss). loss.caller) losses) ≡ calls c
-own_calls {n} {calls} {turns} {losses} merged c =
-    let mine = calls_of c (entries_of turns) in
-    let lost = lost_calls_of c losses in
-    let all = as_many (calls c) (mine ++ lost) (λ x. omega (arith, times-append x mine lost, merged.each_once c x)) in
-    omega (arith, all, length-append mine lost, of_owner (λ (e : Entry (List ℕ)). e.caller) (λ e. e.call) c (entries_of turns), of_owner (λ (loss : Loss). loss.caller) (λ loss. loss.call) c losses)
+-- the callers of entries, and of losses
+abbrev owners : List Turn → List Loss → List ℕ
+owners turns losses = map (λ e. e.caller) (entries_of turns) ++ map (λ (loss : Loss). loss.caller) losses
+
+module _ {n : ℕ} {calls : ℕ → ℕ} {turns : List Turn} {losses : List Loss} (merged : AreMerged n calls turns losses) where
+  -- each call of a caller is one entry or one loss
+  own_calls : (c : ℕ) → times c (owners turns losses) ≡ calls c
+  own_calls c =
+      let mine = calls_of c (entries_of turns) in
+      let lost = lost_calls_of c losses in
+      let all = as_many (calls c) (mine ++ lost) (λ x. omega (arith, times-append x mine lost, merged.each_once c x)) in
+      omega (arith, all, times-append, length-append mine lost, of_owner (λ (e : Entry (List ℕ)). e.caller) (λ e. e.call) c (entries_of turns), of_owner (λ (loss : Loss). loss.caller) (λ loss. loss.call) c losses)
+
+  -- where no others call, these are all
+  whole : (callers : ℕ) → ((c : ℕ) → callers ≤ c → calls c ≡ 0) → below callers (owners turns losses) ≡ length (entries_of turns) + length losses
+  whole callers none =
+      let all = all_below callers (owners turns losses) (λ c more. omega (arith, own_calls c, none c more)) in
+      simp (length-append, length-map) at all
 
 module _ (n callers : ℕ) (turns : List Turn) (losses : List Loss) (first second : Rest)
     (settled : IsSettledAt n turns losses first) (later : IsSettledAt n turns losses second) (is_later : IsLater callers first second) where
-  abbrev own_entries : Rest → List ℕ
-  own_entries rest = map (λ e. e.caller) (entries_of (take rest.turns turns))
-
-  abbrev own_losses : Rest → List ℕ
-  own_losses rest = map (λ loss. loss.caller) (lost_by rest losses)
-
-  calls_of_some : (k : ℕ) → below k (own_entries first) + below k (own_losses first) + calls_between k first second
-      ≡ below k (own_entries second) + below k (own_losses second)
+  calls_of_some : (k : ℕ) → below k (owners (take first.turns turns) (lost_by first losses)) + calls_between k first second
+      ≡ below k (owners (take second.turns turns) (lost_by second losses))
   calls_of_some zero = omega (arith, none_below)
-  calls_of_some (suc c) =
-      let rest = calls_of_some c in
-      omega (arith, below_more, rest, own_calls settled c, own_calls later c, is_later.calls_rise c)
-
-  -- all calls up to a rest are the entries of its turns and its losses
-  no_others : (rest : Rest) → IsSettledAt n turns losses rest → ((c : ℕ) → callers ≤ c → rest.calls c ≡ 0)
-      → below callers (own_entries rest) + below callers (own_losses rest)
-      ≡ entries_before rest.turns turns + length (lost_by rest losses)
-  no_others rest at none =
-      let entries = entries_of (take rest.turns turns) in
-      omega (
-        arith,
-        all_below callers (own_entries rest) (λ c more. omega (arith, own_calls at c, none c more)),
-        all_below callers (own_losses rest) (λ c more. omega (arith, own_calls at c, none c more)),
-        length-map entries (λ e. e.caller),
-        length-map (lost_by rest losses) (λ loss. loss.caller),
-      )
+  calls_of_some (suc c) = omega (arith, below_more, calls_of_some c, own_calls settled c, own_calls later c, is_later.calls_rise c)
 
   all_calls : entries_before first.turns turns + length (lost_by first losses) + calls_between callers first second
       ≡ entries_before second.turns turns + length (lost_by second losses)
   all_calls = omega (
     arith,
     calls_of_some callers,
-    no_others first settled (λ c more. omega (arith, is_later.calls_rise c, is_later.no_others c more)),
-    no_others second later is_later.no_others,
+    whole settled callers (λ c more. omega (arith, is_later.calls_rise c, is_later.no_others c more)),
+    whole later callers is_later.no_others,
   )
 
   -- where a call between the rests was lost, at least n of them were accepted
