@@ -35,25 +35,20 @@ module _ (config : Parts) where
   more_claims i zero e es = omega arith
   more_claims i (suc n) e es = grind (arith, more_claims i n e es, length-append (claim_of n e.act) (claims_of n es))
 
-  -- where no context was passed on to class i, those that are kept there or in a larger one needed it, and so did the missing ones
-  few_missing : (i : ℕ) (es : List (Entry (List ℕ))) → i ≤ length config.classes → ((e : Entry (List ℕ)) → StandsIn es e
-      → (i ≤ fitting_class config (context_of e.act)) ⊎ (kept_class config (context_of e.act) < i))
+  -- those that need class i or a larger one are kept there, or missing; and where no context was passed on to it, no others are
+  needed : (i : ℕ) (es : List (Entry (List ℕ))) → i ≤ length config.classes
       → ((e : Entry (List ℕ)) → StandsIn es e → fitting_class config (context_of e.act) ≤ kept_class config (context_of e.act))
-      → missing_in config es + from_class i (length config.classes) (λ j. length (claims_of j es)) ≤ needing config i es
-  few_missing i [] le none fits = let nothing = own_claims i (length config.classes) (State 0) (omega arith) in grind (arith, nothing)
-  few_missing i (e ∷ es) le none fits =
-      let K = length config.classes in
-      let rest = few_missing i es le (λ x at. none x (suc at.0, at.1)) (λ x at. fits x (suc at.0, at.1)) in
-      grind (arith, rest, more_claims i K e es, own_claims i K e.act, none e (0, refl), fits e (0, refl))
-
-  many_missing : (i : ℕ) (es : List (Entry (List ℕ)))
-      → ((e : Entry (List ℕ)) → StandsIn es e → fitting_class config (context_of e.act) ≤ kept_class config (context_of e.act))
-      → needing config i es ≤ missing_in config es + from_class i (length config.classes) (λ j. length (claims_of j es))
-  many_missing i [] fits = omega arith
-  many_missing i (e ∷ es) fits =
-      let K = length config.classes in
-      let rest = many_missing i es (λ x at. fits x (suc at.0, at.1)) in
-      grind (arith, rest, more_claims i K e es, own_claims i K e.act, fits e (0, refl))
+      → let all = missing_in config es + from_class i (length config.classes) (λ j. length (claims_of j es)) in (needing config i es ≤ all)
+      × (((e : Entry (List ℕ)) → StandsIn es e → (i ≤ fitting_class config (context_of e.act)) ⊎ (kept_class config (context_of e.act) < i))
+      → all ≤ needing config i es)
+  needed i [] le fits =
+      let nothing = own_claims i (length config.classes) (State 0) (omega arith) in (omega arith, λ none. grind (arith, nothing))
+  needed i (e ∷ es) le fits =
+      let rest = needed i es le (λ x at. fits x (suc at.0, at.1)) in
+      let more = more_claims i (length config.classes) e es in
+      let own = own_claims i (length config.classes) e.act (omega arith) in
+      let fit = fits e (0, refl) in
+      (grind (arith, rest.0, more, own, fit), λ none. grind (arith, rest.1 (λ x at. none x (suc at.0, at.1)), more, own, fit, none e (0, refl)))
 
   none_need : (i : ℕ) (es : List (Entry (List ℕ))) → length config.classes ≤ i → needing config i es ≡ 0
   none_need i [] beyond = refl
@@ -70,8 +65,7 @@ module _ (config : Parts) where
     -- what was claimed by the second rest
     claimed_more : (j : ℕ) → claimed_at turns second j ≡ claimed_at turns first j + length (claims_of j es)
     claimed_more j =
-        let old = entries_of (take first.rest.turns turns) in
-        rw (in_parts first.rest.turns second.rest.turns turns asks.turns_rise, flat_map-append) (length-append (claims_of j old) (claims_of j es))
+        rw (in_parts first.rest.turns second.rest.turns turns asks.turns_rise, flat_map-append) (length-append _ (claims_of j es))
 
     all_out : (e : Entry (List ℕ)) (j : ℕ) → StandsIn es e → fitting_class config (context_of e.act) ≤ j
         → j < kept_class config (context_of e.act) → first.offered j ≤ claimed_at turns second j
@@ -83,7 +77,7 @@ module _ (config : Parts) where
     bound : (i : ℕ) → i ≤ K → ((j : ℕ) → i ≤ j → j < K → first.offered j ≤ claimed_at turns second j) → ((e : Entry (List ℕ)) → StandsIn es e
         → (i ≤ fitting_class config (context_of e.act)) ⊎ (kept_class config (context_of e.act) < i)) → missing_in config es ≤ greatest K (too_many config turns first second)
     bound i le all none =
-        let few = few_missing i es le none asks.fits in
+        let few = (needed i es le asks.fits).1 none in
         let free = from_le i K (free_at turns first) (λ j. length (claims_of j es)) (λ j low less. omega (arith, all j low less, claimed_more j)) in
         grind (arith, few, free, le_greatest K i (too_many config turns first second), none_need i es)
 
@@ -103,7 +97,7 @@ module _ (config : Parts) where
         let least = greatest_le K (missing_in config es) (too_many config turns first second) (λ i less.
         omega (
           arith,
-          many_missing i es asks.fits,
+          (needed i es (omega arith) asks.fits).0,
           from_le i K (λ j. length (claims_of j es)) (free_at turns first)
               (λ j low less. omega (arith, within j less, claimed_more j)),
         )) in

@@ -15,14 +15,11 @@ module _ {A : Type 0} where
   of_owner owner call c [] = refl
   of_owner owner call c (x ∷ xs) = let rest = of_owner owner call c xs in grind (arith, rest)
 
-  -- where a second test keeps more, it keeps one that the first does not
-  one_more : (p q : A → Bool) (xs : List A) → length (filter p xs) < length (filter q xs)
-      → (x : A) × StandsIn xs x × (p x ≡ false) × (q x ≡ true)
-  one_more p q [] less = absurd (omega arith)
-  one_more p q (x ∷ xs) less = elim (cases_lt (length (filter p xs)) (length (filter q xs))) [
-    | inl fewer ↦ let rest = one_more p q xs fewer in (rest.0, (suc rest.1.0, rest.1.1), rest.2, rest.3)
-    | inr fewer ↦ (x, (0, refl), grind (arith, cases_Bool (p x), cases_Bool (q x)), grind (arith, cases_Bool (p x), cases_Bool (q x)))
-  ]
+  -- where a first test passes what the second does, it keeps no fewer
+  no_fewer : (p q : A → Bool) (xs : List A) → ((x : A) → StandsIn xs x → q x ≡ true → p x ≡ true) → length (filter q xs) ≤ length (filter p xs)
+  no_fewer p q [] passes = omega arith
+  no_fewer p q (x ∷ xs) passes =
+      let rest = no_fewer p q xs (λ y at. passes y (suc at.0, at.1)) in grind (arith, rest, passes x (0, refl))
 
 -- a number that stands in a list is counted
 counted_where_stands : {A : Type 0} (f : A → ℕ) (xs : List A) (x : A) → StandsIn xs x → 0 < times (f x) (map f xs)
@@ -84,21 +81,14 @@ module _ (n callers : ℕ) (turns : List Turn) (losses : List Loss) (first secon
   )
 
   -- where a call between the rests was lost, at least n of them were accepted
-  some_accepted : SeesAll turns losses first → length (lost_by first losses) < length (lost_by second losses)
-      → entries_before first.turns turns + n ≤ entries_before second.turns turns
-  some_accepted sees less =
-      let by_first = λ (loss : Loss). nat_lt loss.call (first.calls loss.caller) in
-      let by_second = λ (loss : Loss). nat_lt loss.call (second.calls loss.caller) in
-      let lost = one_more by_first by_second losses less in
-      let saw = sees lost.0 lost.1 (ltb-false _ _ lost.2) in
-      let legal = later.legal lost.0 (stands_kept by_second losses lost.0 lost.1 lost.3) in
-      omega (arith, saw, legal.claimed)
-
   pub most : SeesAll turns losses first → lost_between first second losses ≤ calls_between callers first second - n
-  most sees = elim (cases_lt (length (lost_by first losses)) (length (lost_by second losses))) [
-    | inl less ↦ omega (arith, all_calls, some_accepted sees less)
-    | inr fewer ↦ omega arith
-  ]
+  most sees =
+      let by = λ (rest : Rest) (loss : Loss). nat_lt loss.call (rest.calls loss.caller) in
+      elim (cases_lt (entries_before second.turns turns) (entries_before first.turns turns + n)) [
+        | inl few ↦ omega (arith, no_fewer (by first) (by second) losses (λ loss stands is.
+            grind (arith, few, sees loss stands, (later.legal loss (stands_kept (by second) losses loss stands is)).claimed)))
+        | inr many ↦ omega (arith, all_calls)
+      ]
 
   two_parts : entries_of (take second.turns turns) ≡ entries_of (take first.turns turns) ++ entries_of (turns_between first second turns)
   two_parts = in_parts first.turns second.turns turns is_later.turns_rise
