@@ -10,6 +10,10 @@ from_le : (i n : ℕ) (f g : ℕ → ℕ) → ((j : ℕ) → i ≤ j → j < n �
 from_le i zero f g le = omega arith
 from_le i (suc n) f g le = grind (arith, from_le i n f g (λ j low less. le j low (omega arith)), le n)
 
+no_sum : (i n : ℕ) → from_class i n (λ j. 0) ≡ 0
+no_sum i zero = refl
+no_sum i (suc n) = grind (arith, no_sum i n)
+
 pub greatest_le : (n m : ℕ) (f : ℕ → ℕ) → ((j : ℕ) → j < n → f j ≤ m) → greatest n f ≤ m
 greatest_le zero m f le = omega arith
 greatest_le (suc n) m f le = omega (arith, greatest_le n m f (λ j less. le j (omega arith)), le n (omega arith))
@@ -25,15 +29,12 @@ module _ (config : Parts) where
   one_claim j (Report event count stamp (Kept class claim bytes)) less = grind arith
   one_claim j act less = grind arith
 
-  own_claims : (i n : ℕ) (act : Act (List ℕ)) → n ≤ length config.classes → let kept = kept_class config (context_of act) in
-      from_class i n (λ j. length (claim_of j act)) ≡ (if nat_le i kept && nat_lt kept n then 1 else 0)
-  own_claims i zero act le = grind arith
-  own_claims i (suc n) act le = grind (arith, own_claims i n act (omega arith), one_claim n act)
-
-  more_claims : (i n : ℕ) (e : Entry (List ℕ)) (es : List (Entry (List ℕ))) → from_class i n (λ j. length (claims_of j (e ∷ es)))
-      ≡ from_class i n (λ j. length (claim_of j e.act)) + from_class i n (λ j. length (claims_of j es))
-  more_claims i zero e es = omega arith
-  more_claims i (suc n) e es = grind (arith, more_claims i n e es, length-append (claim_of n e.act) (claims_of n es))
+  more_claims : (i n : ℕ) (e : Entry (List ℕ)) (es : List (Entry (List ℕ))) → n ≤ length config.classes
+      → let kept = kept_class config (context_of e.act) in from_class i n (λ j. length (claims_of j (e ∷ es)))
+      ≡ (if nat_le i kept && nat_lt kept n then 1 else 0) + from_class i n (λ j. length (claims_of j es))
+  more_claims i zero e es le = grind arith
+  more_claims i (suc n) e es le =
+      grind (arith, more_claims i n e es (omega arith), one_claim n e.act, length-append (claim_of n e.act) (claims_of n es))
 
   -- those that need class i or a larger one are kept there, or missing; and where no context was passed on to it, no others are
   needed : (i : ℕ) (es : List (Entry (List ℕ))) → i ≤ length config.classes
@@ -41,14 +42,12 @@ module _ (config : Parts) where
       → let all = missing_in config es + from_class i (length config.classes) (λ j. length (claims_of j es)) in (needing config i es ≤ all)
       × (((e : Entry (List ℕ)) → StandsIn es e → (i ≤ fitting_class config (context_of e.act)) ⊎ (kept_class config (context_of e.act) < i))
       → all ≤ needing config i es)
-  needed i [] le fits =
-      let nothing = own_claims i (length config.classes) (State 0) (omega arith) in (omega arith, λ none. grind (arith, nothing))
+  needed i [] le fits = (omega arith, λ none. omega (arith, no_sum i (length config.classes)))
   needed i (e ∷ es) le fits =
       let rest = needed i es le (λ x at. fits x (suc at.0, at.1)) in
-      let more = more_claims i (length config.classes) e es in
-      let own = own_claims i (length config.classes) e.act (omega arith) in
+      let more = more_claims i (length config.classes) e es (omega arith) in
       let fit = fits e (0, refl) in
-      (grind (arith, rest.0, more, own, fit), λ none. grind (arith, rest.1 (λ x at. none x (suc at.0, at.1)), more, own, fit, none e (0, refl)))
+      (grind (arith, rest.0, more, fit), λ none. grind (arith, rest.1 (λ x at. none x (suc at.0, at.1)), more, fit, none e (0, refl)))
 
   none_need : (i : ℕ) (es : List (Entry (List ℕ))) → length config.classes ≤ i → needing config i es ≡ 0
   none_need i [] beyond = refl

@@ -67,19 +67,16 @@ module _ (n : ℕ) where
       → lost_by rest (losses_from n c call fates) ≡ losses_from n c call (take k fates)
   first_lost rest c call k [] is = grind (arith, common_steps)
   first_lost rest c call zero (lost claimed ∷ fates) is = grind (arith, first_lost rest c (suc call) 0 fates (omega arith))
-  first_lost rest c call (suc k) (lost claimed ∷ fates) is = grind (arith, first_lost rest c (suc call) k fates (omega arith))
-  first_lost rest c call zero (accepted ticket ∷ fates) is = grind (arith, first_lost rest c (suc call) 0 fates (omega arith))
-  first_lost rest c call (suc k) (accepted ticket ∷ fates) is = grind (arith, first_lost rest c (suc call) k fates (omega arith))
+  first_lost rest c call k (fate ∷ fates) is = grind (arith, first_lost rest c (suc call) (k - 1) fates (omega arith))
 
   all_lost : (rest : Rest) (d : ℕ) (callers early : List (List Fate)) → length early ≡ length callers
       → ((c i : ℕ) → c ≡ d + i → fates_of early i ≡ take (rest.calls c) (fates_of callers i))
       → lost_by rest (all_losses n d callers) ≡ all_losses n d early
-  all_lost rest d [] [] same firsts = refl
-  all_lost rest d [] (early ∷ others) same firsts = absurd (omega arith)
-  all_lost rest d (fates ∷ callers) [] same firsts = absurd (omega arith)
   all_lost rest d (fates ∷ callers) (early ∷ others) same firsts =
       let behind = all_lost rest (suc d) callers others (omega arith) (λ c i is. firsts c (suc i) (omega arith)) in
       grind (arith, filter-append, firsts d 0, first_lost rest d 0 (rest.calls d) fates, behind)
+  all_lost rest d [] [] same firsts = refl
+  all_lost rest d callers early same firsts = absurd (omega arith)
 
   pub rested : (turns : List Turn) (callers early : List (List Fate)) (rest : Rest) → length early ≡ length callers
       → ((caller : ℕ) → fates_of early caller ≡ take (rest.calls caller) (fates_of callers caller))
@@ -101,12 +98,6 @@ none_lost (loss ∷ losses) = grind (arith, none_lost losses)
 
 pub rested_at_start : (n : ℕ) (turns : List Turn) (losses : List Loss) → Rested n turns losses start
 rested_at_start n turns losses = record {
-  settled = rw (none_lost losses) (record {
-    each_once = λ c call. grind arith;
-    in_order = λ c. tt;
-    legal = λ loss stands. cc;
-    looks_keep_up = λ c. tt;
-    losses_in_order = tt;
-  });
+  settled = rw (none_lost losses) (record { each_once = λ c call. grind arith; in_order = λ c. tt; legal = λ loss stands. cc; looks_keep_up = λ c. tt; losses_in_order = tt });
   sees = λ loss stands after. omega arith;
 }

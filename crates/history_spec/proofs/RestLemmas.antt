@@ -85,8 +85,11 @@ module _ (n callers : ℕ) (turns : List Turn) (losses : List Loss) (first secon
   most sees =
       let by = λ (rest : Rest) (loss : Loss). nat_lt loss.call (rest.calls loss.caller) in
       elim (cases_lt (entries_before second.turns turns) (entries_before first.turns turns + n)) [
-        | inl few ↦ omega (arith, no_fewer (by first) (by second) losses (λ loss stands is.
-            grind (arith, few, sees loss stands, (later.legal loss (stands_kept (by second) losses loss stands is)).claimed)))
+        | inl few ↦ omega (
+          arith,
+          no_fewer (by first) (by second) losses (λ loss stands is.
+              grind (arith, few, sees loss stands, (later.legal loss (stands_kept (by second) losses loss stands is)).claimed)),
+        )
         | inr many ↦ omega (arith, all_calls)
       ]
 

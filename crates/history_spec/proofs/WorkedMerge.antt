@@ -20,11 +20,15 @@ calls zero = Some first ∷ Some second ∷ []
 calls (suc zero) = None ∷ []
 calls (suc (suc caller)) = []
 
+-- a turn: its tick, how many losses and missing contexts it tells, and what it takes
+abbrev pub turn : ℕ → ℕ → ℕ → List (Entry (List ℕ)) → Turn
+turn tick events contexts entries = record {
+  head = record { tick = tick; lost_events = events; lost_contexts = contexts; limited = 0 };
+  entries = entries;
+}
+
 abbrev turns : List Turn
-turns = record {
-  head = record { tick = 5; lost_events = 1; lost_contexts = 1; limited = 0 };
-  entries = entries_from 0 0 (calls 0);
-} ∷ record { head = record { tick = 5; lost_events = 0; lost_contexts = 0; limited = 0 }; entries = [] } ∷ []
+turns = turn 5 1 1 (entries_from 0 0 (calls 0)) ∷ turn 5 0 0 [] ∷ []
 
 abbrev callers : List (List Fate)
 callers = (accepted 0 ∷ accepted 1 ∷ []) ∷ (lost 2 ∷ []) ∷ []
@@ -54,7 +58,7 @@ all_decided {n} {P} {fates} rises within all = record { rises = rises; within = 
 decided : AreDecided 2 (λ caller. length (lines_of caller rounds)) turns callers
 decided zero = search (rules, all_decided)
 decided (suc zero) = search (rules, all_decided)
-decided (suc (suc caller)) = search (rules, all_decided)
+decided caller = search (rules, all_decided)
 
 abbrev log : ℕ → ℕ → List Fate
 log zero zero = accepted 0 ∷ lost 1 ∷ []
@@ -77,13 +81,11 @@ module _ (given : Parts) where
 
   settled_log : (caller i : ℕ) → IsSettledLog (class_at config i).number (claimants i) caller (log caller i)
   settled_log zero zero = search (rules, all_decided)
-  settled_log zero (suc i) = search (rules, all_decided)
-  settled_log (suc caller) i = search (rules, all_decided)
+  settled_log caller i = search (rules, all_decided)
 
   are_entries : (caller : ℕ) → entries_by caller (entries_of turns) ≡ entries_from caller 0 (calls caller)
   are_entries zero = refl
-  are_entries (suc zero) = refl
-  are_entries (suc (suc caller)) = grind arith
+  are_entries caller = grind arith
 
   legal : AreLegalContexts config turns
   legal = legal_contexts config turns calls log claimants (record { follows = follows; settled = settled_log; are_entries = are_entries })

@@ -3,14 +3,7 @@
 use Rattle.history_spec.proofs.Names.{ℕ, zero, suc, List, [], ◌∷◌, None, refl, arith, rules, Turn, Report, Entry, Fate, lost, accepted, AreDecided, AreMerged, all_losses, once_below, Rest, IsSettledAt, SeesAll}
 use Rattle.history_spec.specs.Names.{Absent}
 use Rattle.history_spec.proofs.DecidedLemmas.{are_merged}
-use Rattle.history_spec.proofs.WorkedMerge.{all_decided}
-
--- a turn, how many losses it tells, and what it takes
-abbrev turn : ℕ → ℕ → List (Entry (List ℕ)) → Turn
-turn tick told entries = record {
-  head = record { tick = tick; lost_events = told; lost_contexts = 0; limited = 0 };
-  entries = entries;
-}
+use Rattle.history_spec.proofs.WorkedMerge.{turn, all_decided}
 
 -- the one call of a caller
 abbrev report : ℕ → Entry (List ℕ)
@@ -22,7 +15,7 @@ rest = record { turns = 1; calls = λ caller. once_below caller 1 }
 
 -- caller 1 is lost where nothing was given back, though the first turn took the one entry
 abbrev left : List Turn
-left = turn 10 0 (report 0 ∷ []) ∷ turn 20 1 [] ∷ turn 20 0 [] ∷ []
+left = turn 10 0 0 (report 0 ∷ []) ∷ turn 20 1 0 [] ∷ turn 20 0 0 [] ∷ []
 
 abbrev left_fates : List (List Fate)
 left_fates = (accepted 0 ∷ []) ∷ (lost 1 ∷ []) ∷ []
@@ -40,7 +33,7 @@ left_excluded sees = omega (arith, sees (record { caller = 1; call = 0; given = 
 
 -- the first turn leaves the report of caller 0, which was finished
 abbrev right : List Turn
-right = turn 10 0 [] ∷ turn 20 0 (report 0 ∷ []) ∷ turn 20 0 (report 1 ∷ []) ∷ []
+right = turn 10 0 0 [] ∷ turn 20 0 0 (report 0 ∷ []) ∷ turn 20 0 0 (report 1 ∷ []) ∷ []
 
 abbrev right_fates : List (List Fate)
 right_fates = (accepted 0 ∷ []) ∷ (accepted 1 ∷ []) ∷ []
