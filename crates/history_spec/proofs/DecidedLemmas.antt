@@ -25,12 +25,10 @@ with_ticket : (c first ticket place : ℕ) (es : List (Entry (List ℕ))) (e : E
     → ticket ≡ first + place → StandsIn (tickets_of c first es) (e.call, ticket)
 with_ticket c first ticket place [] e at own is = cc
 with_ticket c first ticket zero (x ∷ es) e at own is =
-    let here : x ≡ e = some-injective x e at in
     let same : first ≡ ticket = omega arith in rw (eq-eqb c x.caller (cc)) (0, cc)
 with_ticket c first ticket (suc place) (x ∷ es) e at own is =
     let rest = with_ticket c (suc first) ticket place es e at own (omega arith) in
-    let others = tickets_of c (suc first) es in
-    cond_both (c == x.caller) ((x.call, first) ∷ others) others (λ ts. StandsIn ts (e.call, ticket)) (λ _. (suc rest.0, rest.1)) (λ _. rest)
+    cond_both (c == x.caller) _ _ (λ ts. StandsIn ts (e.call, ticket)) (λ _. (suc rest.0, rest.1)) (λ _. rest)
 
 -- and is that of an accepted call
 ticket_got : (call : ℕ) (fates : List Fate) (x ticket : ℕ) → StandsIn (tickets_from call fates) (x, ticket)
@@ -38,8 +36,8 @@ ticket_got : (call : ℕ) (fates : List Fate) (x ticket : ℕ) → StandsIn (tic
 ticket_got call [] x ticket (place, at) = cc
 ticket_got call (lost claimed ∷ fates) x ticket stands =
     let rest = ticket_got (suc call) fates x ticket stands in (suc rest.0, omega (arith, rest.1), rest.2)
-ticket_got call (accepted its ∷ fates) x ticket (zero, at) = let same = some-injective _ _ at in
-    (0, omega (arith, ap (λ (p : ℕ × ℕ). p.0) same), ap (λ (p : ℕ × ℕ). some (accepted p.1)) same)
+ticket_got call (accepted its ∷ fates) x ticket (zero, at) =
+    (0, grind (arith, at), ap (λ (p : ℕ × ℕ). some (accepted p.1)) (some-injective _ _ at))
 ticket_got call (accepted its ∷ fates) x ticket (suc place, at) =
     let rest = ticket_got (suc call) fates x ticket (place, at) in (suc rest.0, omega (arith, rest.1), rest.2)
 
@@ -61,18 +59,12 @@ module _ (n : ℕ) (turns : List Turn) where
       record {
         given_back = (front.0, front.1, omega (arith, its.4, front.2));
         claimed = omega (arith, its.4, front.2, within.1, decided.decided.within);
-        earlier = λ call ticket less is. omega (
-          arith,
-          its.4,
-          front.2,
-          fates_in_order 0 fates call its.0 (accepted ticket) (lost its.1) decided.decided.rises (got call ticket is) its.2 (omega (arith, its.3)),
-        );
-        later = λ call ticket less is. omega (
-          arith,
-          its.4,
-          front.2,
-          fates_in_order 0 fates its.0 call (lost its.1) (accepted ticket) decided.decided.rises its.2 (got call ticket is) (omega (arith, its.3)),
-        );
+        earlier = λ call ticket less is.
+            let order = fates_in_order 0 fates call its.0 _ _ decided.decided.rises (got call ticket is) its.2 (omega (arith, its.3)) in
+            omega (arith, its.4, front.2, order);
+        later = λ call ticket less is.
+            let order = fates_in_order 0 fates its.0 call _ _ decided.decided.rises its.2 (got call ticket is) (omega (arith, its.3)) in
+            omega (arith, its.4, front.2, order);
       }
 
   module _ (calls : ℕ → ℕ) (callers : List (List Fate)) (decided : AreDecided n calls turns callers) where

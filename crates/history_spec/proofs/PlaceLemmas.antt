@@ -18,7 +18,7 @@ module _ {A : Type 0} where
   stands_kept test (y ∷ xs) x (zero, at) passes = rw (ap test (some-injective y x at), passes) (0, at)
   stands_kept test (y ∷ xs) x (suc place, at) passes =
       let rest = stands_kept test xs x (place, at) passes in
-      cond_both (test y) (y ∷ filter test xs) (filter test xs) (λ zs. StandsIn zs x) (λ _. (suc rest.0, rest.1)) (λ _. rest)
+      cond_both (test y) _ _ (λ zs. StandsIn zs x) (λ _. (suc rest.0, rest.1)) (λ _. rest)
 
 -- a number that is counted stands there
 pub stands_where_counted : (x : ℕ) (xs : List ℕ) → 0 < times x xs → StandsIn xs x

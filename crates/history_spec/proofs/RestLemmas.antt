@@ -82,25 +82,20 @@ module _ (n callers : ℕ) (turns : List Turn) (losses : List Loss) (first secon
 
   -- where a call between the rests was lost, at least n of them were accepted
   pub most : SeesAll turns losses first → lost_between first second losses ≤ calls_between callers first second - n
-  most sees =
-      let by = λ (rest : Rest) (loss : Loss). nat_lt loss.call (rest.calls loss.caller) in
-      elim (cases_lt (entries_before second.turns turns) (entries_before first.turns turns + n)) [
-        | inl few ↦ omega (
-          arith,
-          no_fewer (by first) (by second) losses (λ loss stands is.
-              grind (arith, few, sees loss stands, (later.legal loss (stands_kept (by second) losses loss stands is)).claimed)),
-        )
-        | inr many ↦ omega (arith, all_calls)
-      ]
-
-  two_parts : entries_of (take second.turns turns) ≡ entries_of (take first.turns turns) ++ entries_of (turns_between first second turns)
-  two_parts = in_parts first.turns second.turns turns is_later.turns_rise
+  most sees = elim (cases_lt (entries_before second.turns turns) (entries_before first.turns turns + n)) [
+    | inl few ↦
+        let by = λ (rest : Rest) (loss : Loss). nat_lt loss.call (rest.calls loss.caller) in
+        let no_more = no_fewer (by first) (by second) losses (λ loss stands is.
+        grind (arith, few, sees loss stands, (later.legal loss (stands_kept (by second) losses loss stands is)).claimed)) in
+        omega (arith, no_more)
+    | inr many ↦ omega (arith, all_calls)
+  ]
 
   pub least : AllByRecursion (λ turn. length turn.entries ≤ n) turns
       → calls_between callers first second - n * (second.turns - first.turns) ≤ lost_between first second losses
   least few =
       let more = few_entries n first.turns (second.turns - first.turns) turns few in
-      omega (arith, all_calls, more, ap length two_parts, length-append (entries_of (take first.turns turns)))
+      omega (arith, all_calls, more, ap length (in_parts first.turns second.turns turns is_later.turns_rise), length-append (entries_of (take first.turns turns)))
 
   -- what was lost by the first rest was lost by the second
   lost_still : (c x : ℕ) (some_losses : List Loss) → times x (lost_calls_of c (lost_by first some_losses)) ≤ times x (lost_calls_of c (lost_by second some_losses))
@@ -114,8 +109,5 @@ module _ (n callers : ℕ) (turns : List Turn) (losses : List Loss) (first secon
       let between = entries_of (turns_between first second turns) in
       let kept = stands_kept (λ (x : Entry (List ℕ)). c == x.caller) between e stands (eq-eqb c c refl) in
       let there = counted_where_stands (λ (x : Entry (List ℕ)). x.call) (entries_by c between) e kept in
-      let by_second = later.each_once c e.call in
-      let once = rw (two_parts, filter-append, map-append, times-append) at by_second in
-      let by_first = settled.each_once c e.call in
-      let still = lost_still c e.call losses in
-      (grind (arith, there, once, by_first, still), grind (arith, there, once))
+      let once = rw (in_parts first.turns second.turns turns is_later.turns_rise, filter-append, map-append, times-append) at (later.each_once c e.call) in
+      (grind (arith, there, once, settled.each_once c e.call, lost_still c e.call losses), grind (arith, there, once))
