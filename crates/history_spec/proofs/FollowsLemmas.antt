@@ -77,12 +77,10 @@ module _ (classes i : ℕ) where
   shown_in_order j k low [] asks act other fate next follows rises at there less shows more = cc
   shown_in_order j zero low (call ∷ calls) asks act other fate next follows rises at there less shows more = absurd (omega arith)
   shown_in_order zero (suc k) low (_ ∷ calls) _ act other fate next (here, later, is, asked, follows) rises at there less shows more =
-      let parts = rises_apart low here later (subst (FatesFrom low) is rises) in
-      let own = shown act fate here (subst (λ x. CallAsks classes i x here) (some-injective _ _ at) asked) shows in
+      let parts = rises_apart low here later (rw is at rises) in
+      let own = shown act fate here (rw (some-injective _ _ at) at asked) shows in
       let second = log_shows k calls later other next follows there more in
-      let before = fate_within low here own.0 fate parts.0 own.1 in
-      let behind = fate_within (end_from low here) later second.0 next parts.1 second.1 in
-      omega (arith, before.1, behind.0)
+      omega (arith, (fate_within low here own.0 fate parts.0 own.1).1, (fate_within (end_from low here) later second.0 next parts.1 second.1).0)
   shown_in_order (suc j) (suc k) low (_ ∷ calls) _ act other fate next (here, later, is, asked, follows) rises at there less shows more =
-      let parts = rises_apart low here later (subst (FatesFrom low) is rises) in
+      let parts = rises_apart low here later (rw is at rises) in
       shown_in_order j k (end_from low here) calls later act other fate next follows parts.1 at there (omega arith) shows more

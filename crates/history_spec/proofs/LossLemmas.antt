@@ -1,7 +1,6 @@
 -- The list of all callers' losses.
-use Rattle.history_spec.proofs.Names.{◌≡◌, ℕ, zero, suc, ◌+◌, ◌-◌, ◌<◌, ◌≤◌, ◌⊎◌, ◌==◌, nat_lt, if◌then◌else◌, List, [], ◌∷◌, ◌++◌, map, get_or, refl, inl, inr, arith, append-nil, Loss, losses_from, all_losses, Fate, lost, accepted, FatesFrom, losses_by, StandsIn, KeepUpFrom, LossesFrom, common_steps, some, some-injective, get_elem?, length, take, eq-eqb, fates_of, filter-append, Turn, Rest, lost_by, Rested, start, AreMerged}
+use Rattle.history_spec.proofs.Names.{◌≡◌, ℕ, zero, suc, ◌+◌, ◌-◌, ◌<◌, ◌≤◌, ◌⊎◌, ◌==◌, nat_lt, if◌then◌else◌, List, [], ◌∷◌, ◌++◌, map, get_or, refl, inl, inr, arith, append-nil, Loss, losses_from, all_losses, Fate, lost, accepted, FatesFrom, losses_by, StandsIn, KeepUpFrom, LossesFrom, common_steps, some, some-injective, get_elem?, length, take, eq-eqb, fates_of, filter-append, Turn, Rest, lost_by, Rested, start, AreMerged, entries_before}
 use Rattle.history_spec.proofs.PlaceLemmas.{stands_kept}
-use Rattle.history_spec.specs.Losses.{entries_before}
 
 module _ (n : ℕ) where
   -- ---- the losses of one caller among all

@@ -1,11 +1,9 @@
 -- What two rests tell of the calls, the turns and the losses between them.
-use Rattle.history_spec.proofs.Names.{◌≡◌, ℕ, zero, suc, ◌+◌, ◌-◌, ◌*◌, ◌<◌, ◌≤◌, ◌==◌, nat_lt, Bool, true, false, List, [], ◌∷◌, ◌++◌, length, map, filter, take, drop, refl, ap, ◌∙◌, inl, inr, arith, length-append, cases_Bool, cases_lt, ltb-false, length-map, filter-append, map-append, eq-eqb, Turn, entries_of, Entry, Loss, AreMerged, entries_by, calls_of, StandsIn, times, some-injective, Rest, lost_by, IsSettledAt, SeesAll, IsLater, calls_between, lost_between, turns_between, AllByRecursion, common_steps}
-use Rattle.history_spec.specs.Losses.{lost_calls_of, entries_before}
+use Rattle.history_spec.proofs.Names.{◌≡◌, ℕ, zero, suc, ◌+◌, ◌-◌, ◌*◌, ◌<◌, ◌≤◌, ◌==◌, nat_lt, Bool, true, List, [], ◌∷◌, ◌++◌, length, map, filter, take, drop, refl, ap, ◌∙◌, inl, inr, arith, length-append, cases_lt, length-map, filter-append, map-append, eq-eqb, Turn, entries_of, Entry, Loss, AreMerged, entries_by, calls_of, StandsIn, times, some-injective, Rest, lost_by, IsSettledAt, SeesAll, IsLater, calls_between, lost_between, turns_between, AllByRecursion, common_steps, lost_calls_of, entries_before, flat_map-append}
 use Rattle.history_spec.proofs.PlaceLemmas.{stands_kept}
 use Rattle.history_spec.proofs.TotalLemmas.{times-append, below, below_more, none_below, all_below, as_many}
 use Rattle.std.proofs.Math.Nat.{mul-suc}
 use Rattle.std.proofs.Math.Seq.{take-add}
-use Rattle.std.proofs.lemmas.Grind.{flat_map-append}
 
 -- ---- lists
 

@@ -1,31 +1,26 @@
 -- A small run: two callers on a report ring of two places, with one class of one buffer. Caller 0 reports twice with
 -- context, and finds a buffer once. Caller 1 finds no place.
-use Rattle.history_spec.proofs.Names.{◌≡◌, ℕ, zero, suc, ◌≤◌, List, [], ◌∷◌, length, Some, None, refl, arith, Turn, entries_of, Parts, class_of, Act, Report, Kept, Missing, Entry, AreDecided, all_losses, Fate, lost, accepted, FatesFrom, end_from, Calls, Follows, class_at, entries_by, IsItsLine, IsMerge, StandsIn, entries_from, AreLegalContexts, IsSettledLog, AreAllDecided, some, some-injective, rules, get_elem?}
-use Rattle.std.specs.List.{AllByRecursion}
+use Rattle.history_spec.proofs.Names.{◌≡◌, ℕ, zero, suc, ◌≤◌, List, [], ◌∷◌, length, Some, None, refl, arith, Turn, entries_of, Parts, class_of, Act, Report, Kept, Missing, Entry, AreDecided, all_losses, Fate, lost, accepted, FatesFrom, end_from, Calls, Follows, class_at, entries_by, IsItsLine, IsMerge, StandsIn, entries_from, AreLegalContexts, IsSettledLog, AreAllDecided, some, some-injective, rules, get_elem?, AllByRecursion}
+use Rattle.history_spec.specs.Names.{Carried}
 use Rattle.history_spec.specs.Rounds.{Asked, reports, Round, lines_of}
 use Rattle.history_spec.proofs.ContextLemmas.{legal_contexts}
 use Rattle.history_spec.proofs.DecidedLemmas.{are_merged}
 
-abbrev first : Act (List ℕ)
-first = Report (record { 0 = 3 }) 1 None (Kept 0 0 (7 ∷ []))
-
-abbrev second : Act (List ℕ)
-second = Report (record { 0 = 3 }) 1 None (Missing (1 ∷ []))
+abbrev report : Carried (List ℕ) → Act (List ℕ)
+report context = Report (record { 0 = 3 }) 1 None context
 
 abbrev its : Asked
 its = reports (record { 0 = 3 }) 1 None (7 ∷ [])
 
 abbrev calls : ℕ → Calls
-calls zero = Some first ∷ Some second ∷ []
+calls zero = Some (report (Kept 0 0 (7 ∷ []))) ∷ Some (report (Missing (1 ∷ []))) ∷ []
 calls (suc zero) = None ∷ []
 calls (suc (suc caller)) = []
 
 -- a turn: its tick, how many losses and missing contexts it tells, and what it takes
 abbrev pub turn : ℕ → ℕ → ℕ → List (Entry (List ℕ)) → Turn
-turn tick events contexts entries = record {
-  head = record { tick = tick; lost_events = events; lost_contexts = contexts; limited = 0 };
-  entries = entries;
-}
+turn tick events contexts entries =
+    record { head = record { tick = tick; lost_events = events; lost_contexts = contexts; limited = 0 }; entries = entries }
 
 abbrev turns : List Turn
 turns = turn 5 1 1 (entries_from 0 0 (calls 0)) ∷ turn 5 0 0 [] ∷ []
@@ -34,11 +29,7 @@ abbrev callers : List (List Fate)
 callers = (accepted 0 ∷ accepted 1 ∷ []) ∷ (lost 2 ∷ []) ∷ []
 
 abbrev rounds : List Round
-rounds = record {
-  beside = [];
-  lines = (its ∷ its ∷ []) ∷ (reports (record { 0 = 3 }) 1 None [] ∷ []) ∷ [];
-  after = 5;
-} ∷ []
+rounds = record { beside = []; lines = (its ∷ its ∷ []) ∷ (reports (record { 0 = 3 }) 1 None [] ∷ []) ∷ []; after = 5 } ∷ []
 
 -- where a call was lost, what holds of each number at which one was
 abbrev pub OnLost : (ℕ → Type 0) → Fate → Type 0
@@ -62,8 +53,7 @@ decided caller = search (rules, all_decided)
 
 abbrev log : ℕ → ℕ → List Fate
 log zero zero = accepted 0 ∷ lost 1 ∷ []
-log zero (suc i) = []
-log (suc caller) i = []
+log caller i = []
 
 abbrev claimants : ℕ → List ℕ
 claimants zero = 0 ∷ []
@@ -93,7 +83,7 @@ module _ (given : Parts) where
   as_asked : (e : Entry (List ℕ)) → StandsIn (entries_of turns) e → IsItsLine config rounds turns e
   as_asked e (zero, at) = rw (← some-injective _ e at) (its, refl, (refl, refl, refl, search rules))
   as_asked e (suc zero, at) = rw (← some-injective _ e at)
-      (its, refl, (refl, refl, refl, (omega arith, legal.missing (record { caller = 0; call = 1; act = second }) 1 (1 ∷ []) (1, refl) refl refl)))
+      (its, refl, (refl, refl, refl, (omega arith, legal.missing (record { caller = 0; call = 1; act = report (Missing (1 ∷ [])) }) 1 (1 ∷ []) (1, refl) refl refl)))
   as_asked e (suc (suc place), at) = cc
 
   merged : IsMerge config rounds turns (all_losses 2 0 callers)
