@@ -16,8 +16,7 @@ module _ {A : Type 0} where
   -- where a first test passes what the second does, it keeps no fewer
   no_fewer : (p q : A → Bool) (xs : List A) → ((x : A) → StandsIn xs x → q x ≡ true → p x ≡ true) → length (filter q xs) ≤ length (filter p xs)
   no_fewer p q [] passes = omega arith
-  no_fewer p q (x ∷ xs) passes =
-      let rest = no_fewer p q xs (λ y at. passes y (suc at.0, at.1)) in grind (arith, rest, passes x (0, refl))
+  no_fewer p q (x ∷ xs) passes = grind (arith, no_fewer p q xs (λ y at. passes y (suc at.0, at.1)), passes x (0, refl))
 
 -- a number that stands in a list is counted
 counted_where_stands : {A : Type 0} (f : A → ℕ) (xs : List A) (x : A) → StandsIn xs x → 0 < times (f x) (map f xs)
@@ -59,8 +58,7 @@ module _ {n : ℕ} {calls : ℕ → ℕ} {turns : List Turn} {losses : List Loss
   -- where no others call, these are all
   whole : (callers : ℕ) → ((c : ℕ) → callers ≤ c → calls c ≡ 0) → below callers (owners turns losses) ≡ length (entries_of turns) + length losses
   whole callers none =
-      let all = all_below callers (owners turns losses) (λ c more. omega (arith, own_calls c, none c more)) in
-      simp (length-append, length-map) at all
+      simp (length-append, length-map) at (all_below callers (owners turns losses) (λ c more. omega (arith, own_calls c, none c more)))
 
 module _ (n callers : ℕ) (turns : List Turn) (losses : List Loss) (first second : Rest)
     (settled : IsSettledAt n turns losses first) (later : IsSettledAt n turns losses second) (is_later : IsLater callers first second) where

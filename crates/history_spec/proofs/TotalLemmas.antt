@@ -16,8 +16,7 @@ of_one : (i x owner : ℕ) (es : List (Entry (List ℕ))) → ((o : ℕ) → o �
     → times x (claims_of i es) ≡ times x (claims_of i (entries_by owner es))
 of_one i x owner [] none = refl
 of_one i x owner (e ∷ es) none =
-    let rest = of_one i x owner es (λ o other. grind (arith, times-append, none o other)) in
-    grind (arith, times-append, rest, none e.caller)
+    grind (arith, times-append, of_one i x owner es (λ o other. grind (arith, times-append, none o other)), none e.caller)
 
 -- how many of the numbers are below another one
 abbrev pub below : ℕ → List ℕ → ℕ
@@ -34,19 +33,16 @@ none_below (x ∷ xs) = grind (arith, none_below xs)
 
 each_below : (n : ℕ) (xs : List ℕ) → ((x : ℕ) → x < n → times x xs ≡ 1) → below n xs ≡ n
 each_below zero xs each = none_below xs
-each_below (suc n) xs each =
-    omega (arith, below_more n xs, each n (omega arith), each_below n xs (λ x less. each x (omega arith)))
+each_below (suc n) xs each = grind (arith, below_more n xs, each n, each_below n xs (λ x less. each x (omega arith)))
 
 pub all_below : (n : ℕ) (xs : List ℕ) → ((x : ℕ) → n ≤ x → times x xs ≡ 0) → below n xs ≡ length xs
 all_below n [] none = refl
-all_below n (x ∷ xs) none =
-    let rest = all_below n xs (λ y more. omega (arith, none y more)) in let here = none x in grind (arith, rest, here)
+all_below n (x ∷ xs) none = grind (arith, all_below n xs (λ y more. omega (arith, none y more)), none x)
 
 -- where just the numbers below n stand in a list, each once, it has n of them
 pub as_many : (n : ℕ) (xs : List ℕ) → ((x : ℕ) → times x xs ≡ once_below x n) → length xs ≡ n
 as_many n xs once =
-    let each = each_below n xs (λ x less. grind (arith, once x, less)) in
-    omega (arith, all_below n xs (λ x more. grind (arith, once x, more)), each)
+    omega (arith, all_below n xs (λ x more. grind (arith, once x)), each_below n xs (λ x less. grind (arith, once x)))
 
 module _ (i : ℕ) (es : List (Entry (List ℕ))) (claimants : List ℕ)
     (same : (c : ℕ) → claims_of i (entries_by c es) ≡ claims_by c 0 claimants) where

@@ -47,7 +47,6 @@ pub all_decided : {n : ℕ} {P : ℕ → Type 0} {fates : List Fate} → FatesFr
 all_decided {n} {P} {fates} rises within all = record { rises = rises; within = within; at_front = lost_at P fates all }
 
 decided : AreDecided 2 (λ caller. length (lines_of caller rounds)) turns callers
-decided zero = search (rules, all_decided)
 decided (suc zero) = search (rules, all_decided)
 decided caller = search (rules, all_decided)
 

@@ -21,9 +21,8 @@ abbrev left_fates : List (List Fate)
 left_fates = (accepted 0 ∷ []) ∷ (lost 1 ∷ []) ∷ []
 
 left_decided : AreDecided 1 (λ caller. once_below caller 2) left left_fates
-left_decided zero = search (rules, all_decided)
 left_decided (suc zero) = search (rules, all_decided)
-left_decided (suc (suc caller)) = search (rules, all_decided)
+left_decided caller = search (rules, all_decided)
 
 left_merged : AreMerged 1 (λ caller. once_below caller 2) left (all_losses 1 0 left_fates)
 left_merged = are_merged 1 left (λ caller. once_below caller 2) left_fates left_decided
@@ -39,9 +38,8 @@ abbrev right_fates : List (List Fate)
 right_fates = (accepted 0 ∷ []) ∷ (accepted 1 ∷ []) ∷ []
 
 right_decided : AreDecided 1 (λ caller. once_below caller 2) right right_fates
-right_decided zero = search (rules, all_decided)
 right_decided (suc zero) = search (rules, all_decided)
-right_decided (suc (suc caller)) = search (rules, all_decided)
+right_decided caller = search (rules, all_decided)
 
 right_merged : AreMerged 1 (λ caller. once_below caller 2) right (all_losses 1 0 right_fates)
 right_merged = are_merged 1 right (λ caller. once_below caller 2) right_fates right_decided
