@@ -1,5 +1,5 @@
 -- The list of all callers' losses.
-use Rattle.history_spec.proofs.Names.{◌≡◌, ℕ, zero, suc, ◌+◌, ◌-◌, ◌<◌, ◌≤◌, ◌⊎◌, ◌==◌, nat_lt, if◌then◌else◌, List, [], ◌∷◌, ◌++◌, map, get_or, refl, inl, inr, arith, append-nil, Loss, losses_from, all_losses, Fate, lost, accepted, FatesFrom, losses_by, StandsIn, KeepUpFrom, LossesFrom, common_steps, some, some-injective, get_elem?, length, take, eq-eqb, fates_of, filter-append, Turn, Rest, lost_by, Rested, start, AreMerged, entries_before}
+use Rattle.history_spec.proofs.Names.{◌≡◌, ℕ, zero, suc, ◌+◌, ◌-◌, ◌<◌, ◌≤◌, ◌⊎◌, ◌==◌, nat_lt, if◌then◌else◌, List, [], ◌∷◌, ◌++◌, map, get_or, refl, inl, inr, arith, append-nil, Loss, losses_from, all_losses, Fate, lost, accepted, FatesFrom, losses_by, StandsIn, KeepUpFrom, LossesFrom, common_steps, some, some-injective, get_elem?, length, take, eq-eqb, fates_of, filter-append, Rest, lost_by, start}
 use Rattle.history_spec.proofs.PlaceLemmas.{stands_kept}
 
 module _ (n : ℕ) where
@@ -68,7 +68,7 @@ module _ (n : ℕ) where
   first_lost rest c call zero (lost claimed ∷ fates) is = grind (arith, first_lost rest c (suc call) 0 fates (omega arith))
   first_lost rest c call k (fate ∷ fates) is = grind (arith, first_lost rest c (suc call) (k - 1) fates (omega arith))
 
-  all_lost : (rest : Rest) (d : ℕ) (callers early : List (List Fate)) → length early ≡ length callers
+  pub all_lost : (rest : Rest) (d : ℕ) (callers early : List (List Fate)) → length early ≡ length callers
       → ((c i : ℕ) → c ≡ d + i → fates_of early i ≡ take (rest.calls c) (fates_of callers i))
       → lost_by rest (all_losses n d callers) ≡ all_losses n d early
   all_lost rest d (fates ∷ callers) (early ∷ others) same firsts =
@@ -77,26 +77,7 @@ module _ (n : ℕ) where
   all_lost rest d [] [] same firsts = refl
   all_lost rest d callers early same firsts = absurd (omega arith)
 
-  pub rested : (turns : List Turn) (callers early : List (List Fate)) (rest : Rest) → length early ≡ length callers
-      → ((caller : ℕ) → fates_of early caller ≡ take (rest.calls caller) (fates_of callers caller))
-      → AreMerged n rest.calls (take rest.turns turns) (all_losses n 0 early)
-      → ((caller call claimed : ℕ) → get_elem? (fates_of callers caller) call ≡ some (lost claimed) → rest.calls caller ≤ call
-      → entries_before rest.turns turns + n ≤ claimed)
-      → Rested n turns (all_losses n 0 callers) rest
-  rested turns callers early rest same firsts merged later = record {
-    settled = rw (all_lost rest 0 callers early same (λ c i is. grind (arith, firsts i, is))) merged;
-    sees = λ loss stands after.
-        let its = loss_is loss.caller 0 (fates_of callers loss.caller) loss (stands_own callers loss stands) in
-        omega (arith, later loss.caller its.0 its.1 its.2 (omega (arith, its.3)), its.4);
-  }
-
 -- before all calls and turns, nothing is lost
-none_lost : (losses : List Loss) → lost_by start losses ≡ []
+pub none_lost : (losses : List Loss) → lost_by start losses ≡ []
 none_lost [] = refl
 none_lost (loss ∷ losses) = grind (arith, none_lost losses)
-
-pub rested_at_start : (n : ℕ) (turns : List Turn) (losses : List Loss) → Rested n turns losses start
-rested_at_start n turns losses = record {
-  settled = rw (none_lost losses) (record { each_once = λ c call. grind arith; in_order = λ c. tt; legal = λ loss stands. cc; looks_keep_up = λ c. tt; losses_in_order = tt });
-  sees = λ loss stands after. omega arith;
-}
