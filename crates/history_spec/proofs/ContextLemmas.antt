@@ -32,12 +32,11 @@ module _ (config : Parts) (turns : List Turn) (calls : ℕ → Calls) (log : ℕ
       shown_in_order (length config.classes) i j k 0 (calls c) (log c i) act other fate next (s.follows c i) settled.decided.rises in
       record {
         all_out = settled.decided.at_front place.0 claimed place.1;
-        by_entries = λ claim less. let once = counted i (entries_of turns) (claimants i) (kept_are_claims i) claim in
-            stands_where_counted claim (claims_of i (entries_of turns)) (grind (arith, once, within.1, settled.decided.within));
-        earlier = λ other claim at is less kept. let its = its_call c other at is in
-            omega (arith, order other.call e.call other.act e.act (accepted claim) (lost claimed) its here less kept shows);
-        later = λ other claim at is less kept. let its = its_call c other at is in
-            order e.call other.call e.act other.act (lost claimed) (accepted claim) here its less shows kept;
+        by_entries = λ claim less. stands_where_counted claim _
+            (grind (arith, counted i (entries_of turns) (claimants i) (kept_are_claims i) claim, within.1, settled.decided.within));
+        earlier = λ other claim at is less kept.
+            omega (arith, order other.call e.call other.act e.act (accepted claim) (lost claimed) (its_call c other at is) here less kept shows);
+        later = λ other claim at is less kept. order e.call other.call e.act other.act (lost claimed) (accepted claim) here (its_call c other at is) less shows kept;
       }
 
   pub legal_contexts : AreLegalContexts config turns

@@ -54,11 +54,10 @@ module _ (n : ℕ) (turns : List Turn) where
   legal_loss loss calls fates decided stands =
       let its = loss_is n loss.caller 0 fates loss stands in
       let front = decided.decided.at_front its.0 its.1 its.2 in
-      let within = fate_within 0 fates its.0 (lost its.1) decided.decided.rises its.2 in
       let got = its_ticket loss.caller calls fates decided in
       record {
         given_back = (front.0, front.1, omega (arith, its.4, front.2));
-        claimed = omega (arith, its.4, front.2, within.1, decided.decided.within);
+        claimed = omega (arith, its.4, front.2, (fate_within 0 fates its.0 (lost its.1) decided.decided.rises its.2).1, decided.decided.within);
         earlier = λ call ticket less is.
             let order = fates_in_order 0 fates call its.0 _ _ decided.decided.rises (got call ticket is) its.2 (omega (arith, its.3)) in
             omega (arith, its.4, front.2, order);
@@ -73,11 +72,9 @@ module _ (n : ℕ) (turns : List Turn) where
 
     pub are_merged : AreMerged n calls turns (all_losses n 0 callers)
     are_merged = record {
-      each_once = λ c call. rw (calls_are c, own_losses n c callers)
-          (let each = each_decided n call c 0 (fates_of callers c) in grind (arith, each, (decided c).calls_are));
+      each_once = λ c call. rw (calls_are c, own_losses n c callers) (grind (arith, each_decided n call c 0, (decided c).calls_are));
       in_order = λ c. rw (calls_are c) (calls_rise 0 0 (fates_of callers c) (omega arith));
-      legal = λ loss stands. legal_loss loss (calls loss.caller) (fates_of callers loss.caller) (decided loss.caller)
-          (stands_own n callers loss stands);
+      legal = λ loss stands. legal_loss loss _ _ (decided loss.caller) (stands_own n callers loss stands);
       looks_keep_up = λ c. rw (own_losses n c callers) (givens_keep_up n 0 c 0 0 (fates_of callers c) (omega arith) (decided c).decided.rises);
       losses_in_order = losses_ordered n 0 callers 0 0 (inr (refl, omega arith));
     }
