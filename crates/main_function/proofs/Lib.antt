@@ -2,10 +2,12 @@ pub mod Names
 mod ClosingLemmas
 mod FittingLemmas
 mod GiverLemmas
+mod HoldLemmas
 mod LargestLemmas
 mod MakingLemmas
 mod QuickLemmas
 mod ReportLemmas
+mod RestingLemmas
 mod StepLemmas
 mod TakingLemmas
 mod TurnedLemmas

@@ -21,7 +21,7 @@ pub use Rattle.report_api.specs.declared.pass.Pass.{Pass}
 pub use Rattle.report_api.specs.declared.shared.Shared.{Shared}
 pub use Rattle.report_api.specs.declared.terms.ReportTerms.{ReportTerms}
 pub use Rattle.report_queue.specs.{AreAllBack, AreAllSwept, IsAllTaken, ReapTells, queue_positions, item_note, reaps_all, welcomes}
-pub use Rattle.main_function.specs.{Closed, IsQuick, OnlyWelcomes, all_back, ShowsHistory, AreTotals, IsManagerOf, Stands, Turned, IsHeld, held, items_of, MakesTurn, Took, item_of, largest_size, sweeps_for, IsBuilt, IsNewManager}
+pub use Rattle.main_function.specs.{Closed, IsQuick, OnlyMoves, OnlyWelcomes, all_back, ShowsHistory, AreTotals, IsManagerOf, Stands, Turned, IsHeld, held, items_of, MakesTurn, Took, item_of, largest_size, sweeps_for, IsBuilt, IsNewManager}
 pub use Rattle.main_function.specs.declared.manager.Manager.{Manager}
 pub use Rattle.main_function.specs.declared.rest.Totals.{Totals}
 pub use Rattle.buffer_classes.specs.Classes.{RiseFrom}

@@ -1,5 +1,5 @@
 -- How many steps a turn and a close make.
-use Rattle.main_function.proofs.Names.{◌≡◌, ℕ, ◌+◌, ◌<◌, List, length, sym, subst, arith, Entry, Turn, Buffer, AllOf, givers_of, at_length, there, IsDeskOf, desk_memo, Desk, Shared, IsQuick, MakesTurn, OnlyWelcomes, queue_positions, GaveBack}
+use Rattle.main_function.proofs.Names.{◌≡◌, ℕ, ◌+◌, ◌<◌, List, length, sym, subst, arith, Entry, Turn, Buffer, AllOf, givers_of, at_length, there, IsDeskOf, desk_memo, Desk, Shared, IsQuick, MakesTurn, OnlyMoves, OnlyWelcomes, queue_positions, GaveBack}
 use Rattle.main_function.proofs.ReportLemmas.{turn_adds}
 
 -- a turn, which is made of so many places and gives these buffers back
@@ -25,4 +25,14 @@ close_is_quick shared came old mid new more welcomed quick = record {
       let between = there (givers_of mid.givers) i
       (subst (λ n. i < n) (sym welcomed.as_many) (at_length (givers_of old.givers) i before at_before)) in
       omega (arith, (welcomed.each i before between.0 at_before between.1).moves_are, quick.at_class config made_for i between.0 after between.1 at_after);
+}
+
+-- and one whose passes go on then
+pub rest_is_quick : (shared : Shared) (n : ℕ) (old mid new : Desk) → OnlyMoves n mid new → IsQuick shared n old mid → IsQuick shared (n + n) old new
+rest_is_quick shared n old mid new moved quick = record {
+  at_reports = λ config made_for. omega (arith, moved.moves_are, quick.at_reports config made_for);
+  at_class = λ config made_for i before after at_before at_after.
+      let between = there (givers_of mid.givers) i
+      (subst (λ n. i < n) moved.givers_are.as_many (at_length (givers_of new.givers) i after at_after)) in
+      omega (arith, (moved.givers_are.each i between.0 after between.1 at_after).moves_are, quick.at_class config made_for i before between.0 at_before between.1);
 }

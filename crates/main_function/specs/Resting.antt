@@ -21,6 +21,7 @@ memos_of its passes = map (λ has. pass_memo (its has)) passes
 pub record IsHeldAt (shared : Shared) (desk : Desk) (c : ℕ) (pass : Pass) : Type 0 where
   pub memo : PassMemo
   pub memos : ℕ → ClassMemo
+  pub number_is : memo.number ≡ c
   pub back_at : get_elem? (desk_memo desk).back c ≡ some (Some memo)
   pub givers_at : (i : ℕ) (giver : Giver) → get_elem? (givers_of desk.givers) i ≡ some giver
       → get_elem? (giver_memo giver).back c ≡ some (Some (memos i))

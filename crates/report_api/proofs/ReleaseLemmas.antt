@@ -19,14 +19,14 @@ module _ (shared : Shared) (desk after : Desk) (pass now : Pass) (mine : IsDeskO
   same = grind (arith, told.told.is_first, next.is_first)
 
   -- what the desk and the pass know now
-  desk_is : desk_memo after ≡ resumes next.memo (desk_memo desk)
+  pub desk_is : desk_memo after ≡ resumes next.memo (desk_memo desk)
   desk_is = told.told.keeper_is ∙ ap (λ (memo : PassMemo). resumes memo (desk_memo desk)) same
 
-  seat_is : pass_memo now ≡ resumed (desk_memo desk).offered next.memo
+  pub seat_is : pass_memo now ≡ resumed (desk_memo desk).offered next.memo
   seat_is = told.told.seat_is ∙ ap (resumed (desk_memo desk).offered) same
 
   -- what a giver knew before, and the seat that went on there
-  went : (i : ℕ) (new : Giver) → get_elem? (givers_of after.givers) i ≡ some new → (old : Giver) × (s : classes.ClassSeat)
+  pub went : (i : ℕ) (new : Giver) → get_elem? (givers_of after.givers) i ≡ some new → (old : Giver) × (s : classes.ClassSeat)
       × (get_elem? (givers_of desk.givers) i ≡ some old) × (get_elem? now.claimant.seats.items i ≡ some s)
       × ((giver_memo new).back ≡ slice_set (giver_memo old).back caller None) × ((seat_memo s).log ≡ (next.memos i).log)
   went i new at =

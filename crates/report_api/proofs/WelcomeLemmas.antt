@@ -16,7 +16,7 @@ module _ {shared : Shared} {pass : Pass} {back : List (Option PassMemo)} {olds n
   new_back = slice_set back caller (Some (ended (pass_memo pass)))
 
   -- what a giver knew before, and the seat that came back there
-  came : (i : ℕ) (new : Giver) → get_elem? news i ≡ some new → (old : Giver) × (seat : classes.ClassSeat) × (get_elem? olds i ≡ some old)
+  pub came : (i : ℕ) (new : Giver) → get_elem? news i ≡ some new → (old : Giver) × (seat : classes.ClassSeat) × (get_elem? olds i ≡ some old)
       × (get_elem? pass.claimant.seats.items i ≡ some seat)
       × ((giver_memo new).back ≡ slice_set (giver_memo old).back caller (Some (ended (seat_memo seat))))
   came i new at =

@@ -1,0 +1,65 @@
+-- A rest: a turn while the desk holds all passes, which go on then.
+use Rattle.main_function.proofs.Names.{◌≡◌, ℕ, ◌+◌, List, [], ◌∷◌, length, map, refl, sym, ap, ◌∙◌, arith, length-map, at_length, there, Turn, Parts, Buffer, AllOf, GaveBack, givers_of, IsDeskOf, desk_memo, PassMemo, pass_memo, Pass, Desk, Shared, came, IsManagerOf, Stands, Manager, get_elem?, some}
+use Rattle.std.specs.Prelude.{Some}
+use Rattle.atomic_table.proofs.Lists.{at_map}
+use Rattle.report_queue.proofs.{at_map_back}
+use Rattle.buffer_classes.specs.{giver_memo}
+use Rattle.permit_ring.specs.{ended, resumed}
+use Rattle.main_function.specs.{AreAllPasses, AreHeldFrom, Closed, HaveGoneOn, IsHeldAt, OnlyMoves, Rested, memos_of}
+
+-- a list mapped twice
+pub map_twice : {A B D : Type 0} (f : B → D) (g : A → B) (l : List A) → map f (map g l) ≡ map (λ x. f (g x)) l
+map_twice f g [] = refl
+map_twice f g (x ∷ l) = ap (λ rest. f (g x) ∷ rest) (map_twice f g l)
+
+-- a turn brings no pass back and releases none
+pub held_still : {shared : Shared} {desk after : Desk} {passes : List Pass} {bufs : List Buffer} → AreHeldFrom shared desk 0 passes
+    → (desk_memo after).back ≡ (desk_memo desk).back → AllOf (GaveBack bufs) (givers_of desk.givers) (givers_of after.givers) → AreHeldFrom shared after 0 passes
+held_still {shared} {desk} {after} held same gave = record {
+  all = held.all ∙ sym (ap length same);
+  held = λ j pass low at.
+      let was = held.held j pass low at in
+      record {
+        memo = was.memo;
+        memos = was.memos;
+        number_is = was.number_is;
+        back_at = rw same was.back_at;
+        givers_at = λ i giver is.
+            let old = there (givers_of desk.givers) i (omega (arith, at_length (givers_of after.givers) i giver is, gave.as_many)) in
+            rw (gave.each i old.0 giver old.1 is).back_is (was.givers_at i old.0 old.1);
+        held = was.held;
+      };
+  gone = λ j low. absurd (omega (arith, low));
+  givers_gone = λ j i giver low at. absurd (omega (arith, low));
+}
+
+module _ {C : Type 0} (events : C → ℕ) (kept : C → List Buffer) (shared : Shared) (mid : Manager C) (desk : Desk) (n : ℕ) (moved : OnlyMoves n mid.desk desk) where
+  -- a manager whose passes go on is the one that it was
+  pub mine_moved : IsManagerOf events kept shared mid → IsDeskOf shared desk → IsManagerOf events kept shared (record mid { desk = desk })
+  mine_moved mine is_desk = grind (arith, mine, is_desk, moved.memo_is, moved.counts)
+
+  -- and stands for the same turns
+  pub stands_moved : (stands : C → Parts → List Turn → Type 0) (config : Parts) (turns : List Turn) → Stands stands config mid turns
+      → Stands stands config (record mid { desk = desk }) turns
+  stands_moved stands config turns is = grind (arith, is, moved.memo_is)
+
+module _ {P : Type 0} (pass_of : P → Pass) (shared : Shared) (desk : Desk) (olds nows : List P) (gone : HaveGoneOn shared desk (map pass_of nows))
+    (back : (desk_memo desk).back ≡ map came (memos_of pass_of olds)) where
+  many : length nows ≡ length olds
+  many = omega (arith, gone.0, ap length back, length-map nows pass_of, length-map (memos_of pass_of olds) came, length-map olds (λ has. pass_memo (pass_of has)))
+
+  pub as_many : length (memos_of pass_of nows) ≡ length (memos_of pass_of olds)
+  as_many = length-map nows (λ has. pass_memo (pass_of has)) ∙ many ∙ sym (length-map olds (λ has. pass_memo (pass_of has)))
+
+  -- each pass knows what it knew, and that it rested
+  pub back_now : (c : ℕ) (pass : PassMemo) → get_elem? (memos_of pass_of olds) c ≡ some pass
+      → get_elem? (memos_of pass_of nows) c ≡ some (resumed (desk_memo desk).offered (ended pass))
+  back_now c pass at =
+      let now = there nows c (omega (arith, many, at_length (memos_of pass_of olds) c pass at, length-map olds (λ has. pass_memo (pass_of has)))) in
+      let on = gone.1 c (pass_of now.0) (at_map pass_of nows c now.0 now.1) in
+      let stood : get_elem? (desk_memo desk).back c ≡ some (came pass) = rw back (at_map came (memos_of pass_of olds) c pass at) in
+      let same : on.memo ≡ ended pass = grind (arith, on.back_at, stood) in
+      at_map (λ has. pass_memo (pass_of has)) nows c now.0 now.1 ∙ ap some (on.goes_on ∙ ap (resumed (desk_memo desk).offered) same)
+
+  pub all_again : (first : Desk) → length (desk_memo first).back ≡ length (desk_memo desk).back → AreAllPasses shared (desk_memo first) (map pass_of nows)
+  all_again first long = record { all = gone.0 ∙ sym long; each = λ i pass at. let on = gone.1 i pass at in (on.is_pass, on.number_is) }
