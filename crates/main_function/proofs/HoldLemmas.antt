@@ -239,12 +239,12 @@ releasing_more pass_of stays shared first desk after olds nows i old new was her
       held = held_after shared desk after (map pass_of nows) i (pass_of old) (pass_of new) was.mine was.held at did _ many behind;
       went_on = λ j now past its. elim (at_set nows i j new now its) [
         | inl it ↦ rw (it.0, ← it.1) (record {
-            is_pass = on.is_pass;
-            number_is = on.number_is;
-            memo = on.memo;
-            back_at = sym (was.same i (omega arith)) ∙ on.back_at;
-            goes_on = rw was.moved.memo_is at on.goes_on;
-          })
+          is_pass = on.is_pass;
+          number_is = on.number_is;
+          memo = on.memo;
+          back_at = sym (was.same i (omega arith)) ∙ on.back_at;
+          goes_on = rw was.moved.memo_is at on.goes_on;
+        })
         | inr other ↦ was.went_on j now (omega (arith, past, other.0)) other.1
       ];
       same = λ j past. rw (desk_now shared desk after (map pass_of nows) i (pass_of old) (pass_of new) was.mine was.held at did)

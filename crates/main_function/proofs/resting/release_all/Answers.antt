@@ -24,8 +24,7 @@ loop-i-preserved g c =
 
 pub returns-clause-passes : goal.returns-clause-passes
 returns-clause-passes g c =
-    let was = c.loop-i.invariant in
-    (
+    let was = c.loop-i.invariant in (
       was.held.all ∙ was.moved.as_many,
       λ k pass at.
           let found = at_map_back g.P.HasPass.its c.loop-i.passes k pass at in

@@ -57,7 +57,7 @@ returns-clause-quick g c =
     let only = only_back (memos_of g.P.HasPass.its c.args.passes.now) (desk_memo old) in
     rest_is_quick c.args.shared.now n old c.step.new.self.desk c.release_all.new.desk (rw (← c.hold_all.ensures.stays.as_many) c.release_all.ensures.moved)
     (close_is_quick c.args.shared.now n old c.hold_all.new.desk c.step.new.self.desk
-      (grind (arith, c.hold_all.ensures.told, only.1, many g d)) c.hold_all.ensures.givers c.step.ensures.quick)
+    (grind (arith, c.hold_all.ensures.told, only.1, many g d)) c.hold_all.ensures.givers c.step.ensures.quick)
 
 pub returns-clause-passes : goal.returns-clause-passes
 returns-clause-passes g c =
