@@ -1,5 +1,6 @@
 //! A caller of a replay: its pass, and the calls that it lost.
 ghost use Rattle.std.specs.Prelude.{◌≡◌, ◌+◌, ◌<◌, ◌≤◌, ◌^◌, length, vec_len, vec_capacity, OnOk};
+ghost use Rattle.std.proofs.Common.{◌∙◌};
 ghost use Rattle.history_spec.specs.Rounds.{lines_at, lines_of};
 ghost use Rattle.report_queue.specs.Parts.{queue_positions};
 ghost use Rattle.report_api.specs.Passes.{IsPassOf, pass_memo, sizes_of};
@@ -10,7 +11,7 @@ ghost use Rattle.trace_replay.specs.Standing.{HasRoom, IsAtRest, MayAllBeAsked, 
 use crate::gate::Gate;
 use ids_types::{Loss, NoMemory};
 use main_function::HasPass;
-use report_api::{Control, Look, Pass, Report, Shared};
+use report_api::{Control, Desk, Look, Pass, Report, Shared};
 use trace_text::{Line, Trace, TraceAct};
 
 /// A caller, with its calls that found no event buffer.
@@ -23,8 +24,20 @@ pub(crate) struct Caller {
 impl HasPass for Caller {
     ghost its = { λ caller. caller.pass };
 
+    ghost stays = { λ old new. new.losses ≡ old.losses };
+
+    ghost stays_on = { λ x y z first then. then ∙ first };
+
     fn pass(&self) -> &Pass {
         &self.pass
+    }
+
+    fn hold(&mut self, desk: &mut Desk, shared: &Shared) {
+        desk.hold(shared, &mut self.pass);
+    }
+
+    fn release(&mut self, desk: &mut Desk, shared: &Shared) {
+        desk.release(shared, &mut self.pass);
     }
 }
 
