@@ -1,5 +1,5 @@
 -- What a close leaves.
-use Rattle.main_function.proofs.Names.{◌≡◌, ℕ, suc, Option, List, [], ◌∷◌, ◌++◌, length, map, refl, sym, ◌∙◌, sum_by, arith, length-map, sum_by-cons, Turn, Parts, Buffer, AllOf, givers_of, AreAllBack, AreAllSwept, IsAllTaken, EachSettled, IsDeskOf, desk_memo, to_give_back, PassMemo, lost_events, missing_in, Desk, Shared, all_calls, all_accepted, Closed, OnlyWelcomes, all_back, came, plain_item, IsManagerOf, Stands, Turned, Manager, get_elem?, some}
+use Rattle.main_function.proofs.Names.{◌≡◌, ℕ, suc, Option, List, [], ◌∷◌, ◌++◌, length, map, DeskMemo, ap, refl, sym, ◌∙◌, sum_by, arith, length-map, sum_by-cons, Turn, Parts, Buffer, AllOf, givers_of, AreAllBack, AreAllSwept, IsAllTaken, EachSettled, IsDeskOf, desk_memo, to_give_back, PassMemo, lost_events, missing_in, Desk, Shared, all_calls, all_accepted, Closed, OnlyWelcomes, all_back, came, plain_item, IsManagerOf, Stands, Turned, Manager, get_elem?, some}
 use Rattle.atomic_table.proofs.Lists.{at_map}
 use Rattle.report_queue.proofs.ClosingLemmas.{at_map_back}
 use Rattle.permit_ring.specs.{ended, marks_back}
@@ -49,6 +49,8 @@ module _ {C : Type 0} (stands : C → Parts → List Turn → Type 0) (events : 
         welcomed = givers;
         turned = turned_from tick new turned;
         are_back = its_back;
+        released_is = turned.released_is ∙ ap (λ (k : DeskMemo). k.released) (told ∙ (only_back passes (desk_memo old.desk)).0);
+        go_on = (taken all).go_on;
         all_calls = λ config turns made_for is. all_calls (record {
           config = config;
           passes = passes;

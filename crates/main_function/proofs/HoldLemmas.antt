@@ -1,9 +1,10 @@
 -- A desk that holds passes one after another, and releases them.
-use Rattle.main_function.proofs.Names.{◌≡◌, ℕ, suc, ◌+◌, List, [], ◌∷◌, length, map, slice_set, refl, sym, ap, ◌∙◌, arith, at_length, there, AllOf, IsDeskOf, IsPassOf, welcomes, givers_of, desk_memo, to_give_back, DeskMemo, PassMemo, pass_memo, Pass, Shared, OnlyWelcomes, all_back, common_steps, get_elem?, some}
+use Rattle.main_function.proofs.Names.{◌≡◌, ℕ, suc, ◌+◌, List, [], ◌∷◌, ◌++◌, length, map, slice_set, refl, sym, ap, ◌∙◌, arith, at_length, there, AllOf, IsDeskOf, IsPassOf, welcomes, givers_of, desk_memo, to_give_back, DeskMemo, PassMemo, pass_memo, Pass, Shared, OnlyWelcomes, all_back, common_steps, get_elem?, some}
 use Rattle.std.specs.Prelude.{zero, ◌<◌, ◌≤◌, ◌≢◌, Option, Some, None, drop}
-use Rattle.std.proofs.Common.{add-one, inl, inr}
+use Rattle.std.proofs.Common.{add-one, inl, inr, take}
+use Rattle.std.proofs.Math.Seq.{take-suc-set}
 use Rattle.std.proofs.lemmas.Bool.{cases_eq}
-use Rattle.std.proofs.lemmas.List.{length-map, length-set}
+use Rattle.std.proofs.lemmas.List.{append_assoc, length-map, length-set, map_push}
 use Rattle.atomic_table.proofs.Lists.{at_map, at_set, drop_at, set_here, set_else}
 use Rattle.buffer_classes.proofs.ByIndexLemmas.{Below, below_more, From, from_more}
 use Rattle.buffer_classes.specs.{IsClaimSeatOf, giver_memo, memo_at}
@@ -129,6 +130,7 @@ pub record Releasing {P : Type 0} (pass_of : P → Pass) (stays : P → P → Ty
   pub went_on : (j : ℕ) (now : P) → j < i → get_elem? nows j ≡ some now → GoesOnFrom shared first j (pass_of now)
   pub same : (j : ℕ) → i ≤ j → get_elem? (desk_memo desk).back j ≡ get_elem? (desk_memo first).back j
   pub moved : OnlyMoves i first desk
+  pub remembered : (desk_memo desk).released ≡ (desk_memo first).released ++ memos_of pass_of (take i nows)
   pub stay : AllOf (Below (λ j. stays) i) olds nows
 
 module _ (shared : Shared) (desk after : Desk) (passes : List Pass) (i : ℕ) (pass now : Pass) (mine : IsDeskOf shared desk)
@@ -150,10 +152,15 @@ module _ (shared : Shared) (desk after : Desk) (passes : List Pass) (i : ℕ) (p
   seat_there : IsClaimSeatOf shared.classes now.claimant
   seat_there = did.is_pass.at.claimant
 
-  desk_now : desk_memo after ≡ record (desk_memo desk) { back = slice_set (desk_memo desk).back i None; moves = (desk_memo after).moves }
+  desk_now : desk_memo after ≡ record (desk_memo desk) {
+    back = slice_set (desk_memo desk).back i None;
+    released = (desk_memo desk).released ++ pass_memo now ∷ [];
+    moves = (desk_memo after).moves;
+  }
   desk_now =
       let is = desk_is shared desk after pass now mine next did.told seat_there did.givers_are in
-      grind (arith, is, number_of)
+      let seat = seat_is shared desk after pass now mine next did.told seat_there did.givers_are in
+      grind (arith, is, seat, number_of)
 
   moves_now : length (desk_memo after).moves ≡ length (desk_memo desk).moves + 1
   moves_now =
@@ -250,5 +257,11 @@ releasing_more pass_of stays shared first desk after olds nows i old new was her
       same = λ j past. rw (desk_now shared desk after (map pass_of nows) i (pass_of old) (pass_of new) was.mine was.held at did)
           (set_else (desk_memo desk).back i j None (λ e. omega (arith, past, e)) ∙ was.same j (omega (arith, past)));
       moved = moved_more shared desk after (map pass_of nows) i (pass_of old) (pass_of new) was.mine was.held at did i first was.moved;
+      remembered =
+          let more = take-suc-set nows i new low in
+          let now = ap (λ (k : DeskMemo). k.released) (desk_now shared desk after (map pass_of nows) i (pass_of old) (pass_of new) was.mine was.held at did) in
+          rw (add-one i) (now ∙ ap (λ released. released ++ pass_memo (pass_of new) ∷ []) was.remembered
+          ∙ append_assoc (desk_memo first).released (memos_of pass_of (take i nows)) (pass_memo (pass_of new) ∷ [])
+          ∙ ap (λ memos. (desk_memo first).released ++ memos) (sym (map_push (λ has. pass_memo (pass_of has)) (take i nows) new) ∙ ap (memos_of pass_of) (sym more)));
       stay = below_more i old new here stay was.stay;
     }

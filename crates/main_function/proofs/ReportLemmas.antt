@@ -15,6 +15,7 @@ pub record TurnAdds (positions : ℕ) (old : DeskMemo) (taken : List (Entry Buff
   pub swept1_is : new.swept1 ≡ old.swept1 ++ turn.head.lost_contexts ∷ []
   pub made_is : new.made ≡ old.made
   pub back_is : new.back ≡ old.back
+  pub released_is : new.released ≡ old.released
   pub few_moves : old.offered ≡ positions + length old.notes → length new.moves ≤ length old.moves + positions + old.made + 4
 
 module _ (positions : ℕ) (old new : DeskMemo) (turn : Turn) (taken : List (Entry Buffer)) (makes : MakesTurn positions old taken turn new) where

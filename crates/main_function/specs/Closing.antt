@@ -1,6 +1,7 @@
 -- The close: all passes come back, and a last turn takes what is left.
 use Rattle.std.specs.Borrow.{Bor}
 use Rattle.std.specs.Prelude.{◌≡◌, ℕ, ◌+◌, List, [], ◌∷◌, ◌++◌, length, map, sum, sum_by, Result, Ok, Err}
+use Rattle.permit_ring.specs.{ReleasedGoOn}
 use Rattle.main_function.specs.Names.{Output, Shared, Parts, welcomes, Buffer, AllOf, givers_of, filled_count, giver_memo, vacant_count, DeskMemo, PassMemo, desk_memo, lost_events, missing_in, Giver}
 use Rattle.ids_types.specs.Turns.{Turn, entries_of}
 use Rattle.law_closing.specs.{HaveAllCalls, accepted_in, came, IsMadeFor}
@@ -43,6 +44,9 @@ module _ {C : Type 0} (stands : C → Parts → List Turn → Type 0) (kept : C 
     pub welcomed : AllOf (λ i. OnlyWelcomes (length passes)) (givers_of old.desk.givers) givers
     pub turned : Turned stands kept tick (all_back passes (desk_memo old.desk)) givers old new
     pub are_back : (desk_memo new.desk).back ≡ map came passes
+    pub released_is : (desk_memo new.desk).released ≡ (desk_memo old.desk).released
+    -- each goes on from what it was when it was released
+    pub go_on : ReleasedGoOn (desk_memo new.desk)
     -- for each history that it stood for, that with this turn has all calls of the passes, and nothing else
     pub all_calls : (config : Parts) (turns : List Turn) → IsMadeFor config shared → Stands stands config old turns
         → HaveAllCalls config passes (turns ++ turned.turn ∷ [])

@@ -1,6 +1,6 @@
 -- A rest: the desk holds all passes, a turn takes what is left, as at the close, and then the passes go on.
 use Rattle.std.specs.Borrow.{Bor}
-use Rattle.std.specs.Prelude.{◌≡◌, ℕ, ◌+◌, ◌<◌, ◌≤◌, Some, None, List, length, map, Result, Ok, Err}
+use Rattle.std.specs.Prelude.{◌≡◌, ℕ, ◌+◌, ◌<◌, ◌≤◌, Some, None, List, ◌++◌, length, map, Result, Ok, Err}
 use mathlib.Core.Option.{some}
 use lib.ListN.{get_elem?}
 use Rattle.main_function.specs.Names.{Output, Shared, Parts, Buffer, Turn, AllOf, Giver, giver_memo, givers_of, Desk, Pass, PassMemo, desk_memo, pass_memo, to_give_back, IsPassOf}
@@ -50,12 +50,12 @@ HaveGoneOn shared desk passes = (length passes ≡ length (desk_memo desk).back)
 
 -- a giver made so many moves by which seats came or went, and nothing else
 pub record OnlyMovesGiver (moved : ℕ) (old new : Giver) : Type 0 where
-  pub memo_is : giver_memo new ≡ record (giver_memo old) { back = (giver_memo new).back; moves = (giver_memo new).moves }
+  pub memo_is : giver_memo new ≡ record (giver_memo old) { back = (giver_memo new).back; released = (giver_memo new).released; moves = (giver_memo new).moves }
   pub moves_are : length (giver_memo new).moves ≡ length (giver_memo old).moves + moved
 
 -- so did the desk
 pub record OnlyMoves (moved : ℕ) (old new : Desk) : Type 0 where
-  pub memo_is : desk_memo new ≡ record (desk_memo old) { back = (desk_memo new).back; moves = (desk_memo new).moves }
+  pub memo_is : desk_memo new ≡ record (desk_memo old) { back = (desk_memo new).back; released = (desk_memo new).released; moves = (desk_memo new).moves }
   pub moves_are : length (desk_memo new).moves ≡ length (desk_memo old).moves + moved
   pub as_many : length (desk_memo new).back ≡ length (desk_memo old).back
   pub counts : to_give_back new ≡ to_give_back old
@@ -70,6 +70,8 @@ module _ {C : Type 0} (stands : C → Parts → List Turn → Type 0) (kept : C 
     pub new_is : new ≡ record mid { desk = new.desk }
     pub moved : OnlyMoves (length passes) mid.desk new.desk
     pub stands_then : (config : Parts) (turns : List Turn) → Stands stands config mid turns → Stands stands config new turns
+    -- the desk knows them as they were released
+    pub remembers : (desk_memo new.desk).released ≡ (desk_memo old.desk).released ++ nows
     -- each knows how many positions were offered then
     pub as_many : length nows ≡ length passes
     pub go_on : (c : ℕ) (pass : PassMemo) → get_elem? passes c ≡ some pass

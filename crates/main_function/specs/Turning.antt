@@ -29,6 +29,7 @@ module _ {C : Type 0} (stands : C → Parts → List Turn → Type 0) (kept : C 
     pub head_is : IsSmallHead turn.head
     pub makes : MakesTurn old.positions desk taken turn (desk_memo new.desk)
     pub back_is : (desk_memo new.desk).back ≡ desk.back
+    pub released_is : (desk_memo new.desk).released ≡ desk.released
     pub buffers : ReturnsBuffers (all_parcels taken) (kept old.chain) (kept new.chain)
         givers (givers_of new.desk.givers)
     -- for each history that it stood for, it stands for that with this turn, and sends what that has more to send

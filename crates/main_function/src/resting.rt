@@ -1,5 +1,5 @@
 //! How a desk holds all passes at a rest, and releases them.
-ghost use Rattle.std.specs.Prelude.{◌≡◌, ◌*◌, length, map};
+ghost use Rattle.std.specs.Prelude.{◌≡◌, ◌++◌, length, map};
 ghost use Rattle.buffer_classes.specs.{AllOf, givers_of};
 ghost use Rattle.report_api.specs.{IsDeskOf, desk_memo, to_give_back};
 ghost use Rattle.main_function.specs.{OnlyWelcomes, all_back, AreAllPasses};
@@ -33,6 +33,7 @@ pub(crate) fn release_all<P: HasPass>(desk: &mut Desk, shared: &Shared, passes: 
     ensures mine { IsDeskOf shared.now desk.new }
     ensures moved { OnlyMoves (length passes.old) desk.old desk.new }
     ensures passes { HaveGoneOn shared.now desk.old (map P.its passes.new) }
+    ensures remembers { (desk_memo desk.new).released ≡ (desk_memo desk.old).released ++ memos_of P.its passes.new }
     ensures stays { AllOf (λ i. P.stays) passes.old passes.new }
 {
     for i in 0..passes.len() {

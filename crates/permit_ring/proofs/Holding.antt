@@ -1,5 +1,5 @@
 -- A seat that is held leaves an empty token, and one that is released goes on with a new one: both keep the rule.
-use Rattle.permit_ring.proofs.Names.{◌≡◌, ◌≢◌, ℕ, zero, suc, ◌<◌, ◌≤◌, true, false, cond, eqb, List, [], ◌∷◌, ◌++◌, set, length, Option, Some, None, refl, sym, ◌∙◌, ap, inl, inr, le_refl, eq-eqb, ne_eqb, arith, ⊎_elim, common_steps, length-set, State, Splits, at_set, at_snoc, set_here, set_else, at_longer, at_last, Machine, opening, after, seat_at, with_seat, resume_next, holders_stay, seat_at-here, seat_at-else, SeatView, Resume, Key, KeeperMemo, Lost, Move, Rest, SeatMemo, Slot, View, Sits, Keeps, Spent, rest_left, rest_right, release_left, release_right, IsSeatMemo, IsOrdered, SeesRests, Runs, and_move, first_back, resumes, resumed, get_elem?, some}
+use Rattle.permit_ring.proofs.Names.{◌≡◌, ◌≢◌, ℕ, zero, suc, ◌<◌, ◌≤◌, true, false, cond, eqb, List, [], ◌∷◌, ◌++◌, set, length, Option, Some, None, append-nil, append_assoc, GoesOn, refl, sym, ◌∙◌, ap, inl, inr, le_refl, eq-eqb, ne_eqb, arith, ⊎_elim, common_steps, length-set, State, Splits, at_set, at_snoc, set_here, set_else, at_longer, at_last, Machine, opening, after, seat_at, with_seat, resume_next, holders_stay, seat_at-here, seat_at-else, SeatView, Resume, Key, KeeperMemo, Lost, Move, Rest, SeatMemo, Slot, View, Sits, Keeps, Spent, rest_left, rest_right, release_left, release_right, IsSeatMemo, IsOrdered, SeesRests, Runs, and_move, first_back, resumes, resumed, get_elem?, some}
 use Rattle.permit_ring.proofs.ListLemmas.{at_end, at_length}
 use Rattle.permit_ring.proofs.States.{fates_stay, slots_stay, keeper_port, not_first, ring_of, leads_on, by_seat-on, by_keeper-on}
 
@@ -30,6 +30,18 @@ rested_ordered memo offered o none idle = record {
   below_ticket = o.below_ticket;
 }
 
+-- a memo goes on from itself, and with one rest more
+same_still : {N : Type 0} (memo : SeatMemo N) → GoesOn memo memo
+same_still memo = record { calls = []; log_is = sym (append-nil memo.log); rests = []; rests_are = sym (append-nil memo.rests) }
+
+more_rests : {N : Type 0} {was memo : SeatMemo N} (offered : ℕ) → GoesOn was memo → GoesOn was (resumed offered memo)
+more_rests {was = was} {memo} offered on = record {
+  calls = on.calls;
+  log_is = on.log_is;
+  rests = on.rests ++ record { calls = memo.view.calls; offered = offered } ∷ [];
+  rests_are = ap (λ (rests : List Rest). rests ++ record { calls = memo.view.calls; offered = offered } ∷ []) on.rests_are ∙ append_assoc was.rests on.rests _;
+}
+
 -- the first seat that is back is idle, and knows what it knew
 record IsBack {N : Type 0} (m : Machine) (memo : SeatMemo N) : Type 0 where
   none_held : memo.view.held ≡ None
@@ -39,7 +51,7 @@ record IsBack {N : Type 0} (m : Machine) (memo : SeatMemo N) : Type 0 where
 module _ {O D T N : Type 0} {note : D → N} {Ao : T → O → Type 0} {An : T → N → Type 0} {key : Key T} {s : State (Slot O D) (View T N)}
     (r : Runs note Ao An key s) (memo : SeatMemo N) (first : first_back r.keeper.back ≡ Some memo) where
   back_there : (get_elem? r.keeper.back memo.number ≡ some (Some memo)) × IsBack r.machine memo
-      × IsSeatMemo r.machine r.moves r.fates r.keeper.fronts r.keeper.made memo
+      × IsSeatMemo r.machine r.moves r.fates r.keeper.fronts r.keeper.released r.keeper.made memo
   back_there =
       let here = first_at r.keeper.back memo first in
       let was = r.each_seat here.0 (Some memo) here.1 in
@@ -79,16 +91,24 @@ module _ {O D T N : Type 0} (note : D → N) (Ao : T → O → Type 0) (An : T �
       let moves : List Move = and_move r.moves (Resume memo.number) 0 in
       let made : memo.number < length m.seats = grind (arith, its, r.knows.made_is) in
       let again : SeatMemo N = resumed r.keeper.offered memo in
+      let released : List (SeatMemo N) = r.keeper.released ++ again ∷ [] in
       -- each other seat that was made knows what it knew
-      let known : (k : SeatMemo N) → k.number ≢ memo.number → IsSeatMemo m r.moves r.fates r.keeper.fronts r.keeper.made k
-      → IsSeatMemo now moves r.fates r.keeper.fronts r.keeper.made k =
-      λ k apart was. grind (arith, seat_at-else m.seats memo.number seat made, by_seat-on, was) in
+      let known : (k : SeatMemo N) → k.number ≢ memo.number → IsSeatMemo m r.moves r.fates r.keeper.fronts r.keeper.released r.keeper.made k
+      → IsSeatMemo now moves r.fates r.keeper.fronts released r.keeper.made k =
+      λ k apart was.
+      let on : (p : ℕ) (before : SeatMemo N) → get_elem? released p ≡ some before → before.number ≡ k.number → GoesOn before k =
+      λ p before e same. ⊎_elim (λ old. was.goes_on p before old same) (λ new. absurd (apart (sym same ∙ ap (λ (m : SeatMemo N). m.number) (sym new))))
+      (at_snoc r.keeper.released again before p e) in
+      grind (arith, seat_at-else m.seats memo.number seat made, by_seat-on, was, on) in
       -- and so does this one, which is live again
-      let goes : IsSeatMemo now moves r.fates r.keeper.fronts r.keeper.made again =
+      let goes : IsSeatMemo now moves r.fates r.keeper.fronts released r.keeper.made again =
       let ordered = rested_ordered memo r.keeper.offered its.2.ordered its.1.none_held its.1.not_armed in
       let rested : (l : ℕ) (rest : Rest) → get_elem? again.rests l ≡ some rest → rest.offered ≤ m.offered =
       λ l rest e. let known = its.2.rested l rest in grind (arith, at_snoc memo.rests (record { calls = memo.view.calls; offered = r.keeper.offered }) rest l e, known, r.knows.counted) in
-      grind (arith, common_steps, its, seat_at-here m.seats memo.number seat made, by_seat-on, ordered, rested) in
+      let on : (p : ℕ) (before : SeatMemo N) → get_elem? released p ≡ some before → before.number ≡ memo.number → GoesOn before again =
+      λ p before e same. ⊎_elim (λ old. more_rests r.keeper.offered (its.2.goes_on p before old same)) (λ new. rw (← new) (same_still again))
+      (at_snoc r.keeper.released again before p e) in
+      grind (arith, common_steps, its, seat_at-here m.seats memo.number seat made, by_seat-on, ordered, rested, on) in
       let kept : List (View T N) = set s.views 0 (Keeps key (resumes memo r.keeper)) in
       let newest : View T N = Sits key again in
       rw (is, p.0, p.1, there) record {
@@ -104,7 +124,7 @@ module _ {O D T N : Type 0} (note : D → N) (Ao : T → O → Type 0) (An : T �
         are_slots = slots_stay refl refl refl r.are_slots;
         keeper_there = at_longer kept (newest ∷ []) 0 (Keeps key (resumes memo r.keeper))
             (set_here s.views 0 (Keeps key (resumes memo r.keeper)) (at_length s.views 0 (Keeps key r.keeper) r.keeper_there));
-        knows = grind (arith, r.knows, its, by_keeper-on, by_seat-on, length-set);
+        knows = grind (arith, r.knows, its, by_keeper-on, by_seat-on, length-set, λ (p : ℕ) (before : SeatMemo N). at_snoc r.keeper.released again before p);
         owner = λ i. cond (eqb i memo.number) (length s.views) (r.owner i);
         each_view = λ port v e.
             let before = at_set s.views 0 port (Keeps key (resumes memo r.keeper)) v in

@@ -65,6 +65,7 @@ module _ {O D T N : Type 0} (note : D → N) (Ao : T → O → Type 0) (An : T �
       moved : k.moves ≡ and_move r.keeper.moves step found
       made_stays : k.made ≡ r.keeper.made
       back_stays : k.back ≡ r.keeper.back
+      released_stay : k.released ≡ r.keeper.released
       fronts_stay : (g : ℕ) → StandsIn r.keeper.fronts g → StandsIn k.fronts g
       noted : (t : ℕ) (x : N) → get_elem? k.notes t ≡ some x → (i : ℕ) × (get_elem? r.fates t ≡ some (Some (i, x)))
       counts : Counts key.positions now k
@@ -76,8 +77,8 @@ module _ {O D T N : Type 0} (note : D → N) (Ao : T → O → Type 0) (An : T �
         → Runs note Ao An key record { words = words; homes = homes; views = set s.views 0 (Keeps key k) }
     keeper_steps step {found} {now} {k} {words} {homes} leads read told slots its =
         let then : List Move = and_move r.moves step (found_at r.machine step) in
-        let others : (other : SeatMemo N) → IsSeatMemo r.machine r.moves r.fates r.keeper.fronts r.keeper.made other
-        → IsSeatMemo now then r.fates k.fronts k.made other =
+        let others : (other : SeatMemo N) → IsSeatMemo r.machine r.moves r.fates r.keeper.fronts r.keeper.released r.keeper.made other
+        → IsSeatMemo now then r.fates k.fronts k.released k.made other =
         λ other knew. grind (arith, its, by_seat-on) in
         record {
           sizes = r.sizes;

@@ -1,5 +1,5 @@
 -- Splits and joins keep the rule: the keeper makes one more seat, or takes one back.
-use Rattle.permit_ring.proofs.Names.{◌≡◌, ◌≢◌, ℕ, ◌+◌, ◌<◌, true, false, cond, eqb, List, [], ◌∷◌, ◌++◌, set, length, Some, None, refl, sym, ◌∙◌, ap, inl, inr, le_refl, eq-eqb, ne_eqb, arith, ⊎_elim, common_steps, length-append, length-set, State, Joins, Splits, at_set, set_here, set_else, at_longer, at_last, Machine, opening, new_seat, after, seat_at, is_idle, with_seat, split_next, join_next, SameHolders, holders_stay_push, live_is_made, holders_stay, seat_at-here, seat_at-else, SeatView, Split, Join, Key, KeeperMemo, Move, SeatMemo, Slot, View, Sits, Keeps, Spent, Leads, by_seat, by_keeper, join_both, join_spent, split_left, split_right, IsSeatMemo, Runs, and_move, ended, new_memo, makes, welcomes, get_elem?, some}
+use Rattle.permit_ring.proofs.Names.{◌≡◌, ◌≢◌, ℕ, ◌+◌, ◌<◌, true, false, cond, eqb, List, [], ◌∷◌, ◌++◌, set, length, Some, None, GoesOn, refl, sym, ◌∙◌, ap, inl, inr, le_refl, eq-eqb, ne_eqb, arith, ⊎_elim, common_steps, length-append, length-set, State, Joins, Splits, at_set, set_here, set_else, at_longer, at_last, Machine, opening, new_seat, after, seat_at, is_idle, with_seat, split_next, join_next, SameHolders, holders_stay_push, live_is_made, holders_stay, seat_at-here, seat_at-else, SeatView, Split, Join, Key, KeeperMemo, Move, SeatMemo, Slot, View, Sits, Keeps, Spent, Leads, by_seat, by_keeper, join_both, join_spent, split_left, split_right, IsSeatMemo, Runs, and_move, ended, new_memo, makes, welcomes, get_elem?, some}
 use Rattle.permit_ring.proofs.LogLemmas.{taken_none}
 use Rattle.permit_ring.proofs.ListLemmas.{at_end, at_length}
 use Rattle.permit_ring.proofs.NewRings.{new_ordered}
@@ -23,11 +23,11 @@ module _ {O D T N : Type 0} {note : D → N} {Ao : T → O → Type 0} {An : T �
   newest = Sits key (new_memo r.keeper.made)
 
   -- the seats that were made before know what they knew, and the new one knows of no call
-  known : (memo : SeatMemo N) → IsSeatMemo r.machine r.moves r.fates r.keeper.fronts r.keeper.made memo
-      → IsSeatMemo (record r.machine { seats = seats }) then r.fates r.keeper.fronts (r.keeper.made + 1) memo
+  known : (memo : SeatMemo N) → IsSeatMemo r.machine r.moves r.fates r.keeper.fronts r.keeper.released r.keeper.made memo
+      → IsSeatMemo (record r.machine { seats = seats }) then r.fates r.keeper.fronts r.keeper.released (r.keeper.made + 1) memo
   known memo is = grind (arith, split)
 
-  known_new : IsSeatMemo (record r.machine { seats = seats }) then r.fates r.keeper.fronts (r.keeper.made + 1) (new_memo r.keeper.made)
+  known_new : IsSeatMemo (record r.machine { seats = seats }) then r.fates r.keeper.fronts r.keeper.released (r.keeper.made + 1) (new_memo r.keeper.made)
   known_new =
       let none = taken_none r.keeper.made 0 r.fates (λ t x e. let done = r.are_fates.finished t r.keeper.made x e in omega arith) in
       grind (arith, common_steps, split, r.knows.unmade_rest, new_ordered {N = N} r.keeper.made, none)
@@ -98,12 +98,15 @@ module _ {O D T N : Type 0} (note : D → N) (Ao : T → O → Type 0) (An : T �
       let moves : List Move = and_move r.moves (Join memo.number) 0 in
       let made = live_is_made m.seats memo.number (rw its.shows at (seated r other there).1) in
       -- each other seat that was made knows what it knew
-      let known : (k : SeatMemo N) → k.number ≢ memo.number → IsSeatMemo m r.moves r.fates r.keeper.fronts r.keeper.made k
-      → IsSeatMemo now moves r.fates r.keeper.fronts r.keeper.made k =
+      let known : (k : SeatMemo N) → k.number ≢ memo.number → IsSeatMemo m r.moves r.fates r.keeper.fronts r.keeper.released r.keeper.made k
+      → IsSeatMemo now moves r.fates r.keeper.fronts r.keeper.released r.keeper.made k =
       λ k apart was. grind (arith, seat_at-else m.seats memo.number gone made, by_seat-on) in
       -- and so does this one, but that it is not live any more
-      let ends : IsSeatMemo now moves r.fates r.keeper.fronts r.keeper.made (ended memo) =
-      grind (arith, common_steps, seat_at-here m.seats memo.number gone made, by_seat-on) in
+      let on : (p : ℕ) (was : SeatMemo N) → get_elem? r.keeper.released p ≡ some was → was.number ≡ memo.number → GoesOn was (ended memo) =
+      λ p was e same. let before = its.goes_on p was e same in
+      record { calls = before.calls; log_is = before.log_is; rests = before.rests; rests_are = before.rests_are } in
+      let ends : IsSeatMemo now moves r.fates r.keeper.fronts r.keeper.released r.keeper.made (ended memo) =
+      grind (arith, common_steps, its, seat_at-here m.seats memo.number gone made, by_seat-on, on) in
       let kept : List (View T N) = set s.views 0 (Keeps key (welcomes memo r.keeper)) in
       rw (keeps, sits, p.0, p.1) record {
         sizes = r.sizes;

@@ -20,12 +20,12 @@ module _ {O D T N : Type 0} {note : D → N} {Ao : T → O → Type 0} {An : T �
   -- who came back is with the keeper and not live, and knows what it knew
   came_back : (memo : SeatMemo N) → CameBack s.views memo
       → (get_elem? r.keeper.back memo.number ≡ some (Some memo)) × (memo.view.live ≡ false)
-      × IsSeatMemo r.machine r.moves r.fates r.keeper.fronts r.keeper.made memo
+      × IsSeatMemo r.machine r.moves r.fates r.keeper.fronts r.keeper.released r.keeper.made memo
   came_back memo c = let here = rw (keeper_port r c.there).1 at c.back_at in
       let p = r.each_seat memo.number (Some memo) here in (here, p.1, p.2)
 
   -- what a seat that was made knows
-  pub memo_known : (memo : SeatMemo N) → IsMemoThere s.views memo → IsSeatMemo r.machine r.moves r.fates r.keeper.fronts r.keeper.made memo
+  pub memo_known : (memo : SeatMemo N) → IsMemoThere s.views memo → IsSeatMemo r.machine r.moves r.fates r.keeper.fronts r.keeper.released r.keeper.made memo
   memo_known memo (inl sits) = (seated r _ sits.there).2
   memo_known memo (inr back) = (came_back memo back).2
 

@@ -20,6 +20,7 @@ module _ {N : Type 0} where
     pub swept1_is : new.swept1 ≡ old.swept1
     pub made_is : new.made ≡ old.made
     pub back_is : new.back ≡ old.back
+    pub released_is : new.released ≡ old.released
 
   pub only_reaps : (xs : List N) (k : KeeperMemo N) → OnlyReaps xs k (reaps_all xs k)
   only_reaps [] k = grind (arith, common_steps)
@@ -38,6 +39,7 @@ module _ {N : Type 0} where
     pub swept1_is : new.swept1 ≡ old.swept1
     pub made_is : new.made ≡ old.made
     pub back_is : new.back ≡ old.back
+    pub released_is : new.released ≡ old.released
     pub few_moves : (count ≡ 0 → new.moves ≡ old.moves) × (0 < count → length new.moves + length old.notes ≤ length old.moves + old.offered + limit + 1)
 
   pub gave_of : (limit count : ℕ) (old new : KeeperMemo N) → OffersAll limit count old new → Gave limit count old new

@@ -1,9 +1,19 @@
 -- Each step of a seat keeps the rule.
-use Rattle.permit_ring.proofs.Names.{◌≡◌, ◌≢◌, ℕ, suc, ◌+◌, ◌%◌, ◌^◌, ◌<◌, ◌≤◌, ◌==◌, true, false, List, [], ◌∷◌, ◌++◌, set, length, Option, Some, None, refl, sym, ◌∙◌, ap, slice_index, arith, ⊎_elim, le_refl, eq-eqb, ne_eqb, cases_lt, lt-ltb, le-ltb, length-set, length_push, at_last, at_longer, at_set, at_snoc, set_else, set_here, State, step, keeps, takes, gives, Allows, Step, Look, Claim, Finish, Mark, Key, Move, Lost, Got, SeatMemo, Slot, Offered, Finished, View, Sits, IsOrdered, end_from, got_of, taken_by, found_at, is_of_seat, is_of_keeper, Known, saw_word, claimed_word, marked_loss, finished_value, words_of, StandsIn, SeesRests, AreFates, AreSlots, Counts, IsSeatMemo, Runs, Outcome, RisesFrom, append-nil, and_move, and_lost, looks, claims, adds_mark, finishes, Machine, opening, possible, after, served, is_idle, looked, seat_at, marks_of, marked, Holds, packed, unpacked, IsPackable, IsReadable, small, word_packs, all_claimed, armed_leaves_field, after_keeps, next_of_possible, idle_parts, live_is_made, seat_at-here, seat_at-else, holders_stay, unpacked-packed, packed-claimed, get_elem?, some, none}
+use Rattle.permit_ring.proofs.Names.{◌≡◌, ◌≢◌, ℕ, suc, ◌+◌, ◌%◌, ◌^◌, ◌<◌, ◌≤◌, ◌==◌, true, false, List, [], ◌∷◌, ◌++◌, set, length, Option, Some, None, refl, sym, inl, inr, ◌∙◌, ap, slice_index, arith, ⊎_elim, le_refl, eq-eqb, ne_eqb, cases_lt, lt-ltb, le-ltb, length-set, length_push, at_last, at_longer, at_set, at_snoc, set_else, set_here, State, step, keeps, takes, gives, Allows, Step, Look, Claim, Finish, Mark, Key, Move, Lost, Got, SeatMemo, Slot, Offered, Finished, View, Sits, IsOrdered, end_from, got_of, taken_by, found_at, is_of_seat, is_of_keeper, Known, saw_word, claimed_word, marked_loss, finished_value, words_of, StandsIn, SeesRests, GoesOn, append_assoc, AreFates, AreSlots, Counts, IsSeatMemo, Runs, Outcome, RisesFrom, append-nil, and_move, and_lost, looks, claims, adds_mark, finishes, Machine, opening, possible, after, served, is_idle, looked, seat_at, marks_of, marked, Holds, packed, unpacked, IsPackable, IsReadable, small, word_packs, all_claimed, armed_leaves_field, after_keeps, next_of_possible, idle_parts, live_is_made, seat_at-here, seat_at-else, holders_stay, unpacked-packed, packed-claimed, get_elem?, some, none}
 use mathlib.Core.Option as maybe
 use Rattle.permit_ring.proofs.LogLemmas.{taken-open, taken-else, taken-own, rises_on, sees_on, end_on, got_of-append}
 use Rattle.permit_ring.proofs.ListLemmas.{at_end, at_length}
 use Rattle.permit_ring.proofs.States.{ring_of, sizes_of, one_turn_ahead, not_first, seated, fates_stay, slots_stay, slots_set, leads_on, by_seat-on, by_keeper-on}
+
+-- a memo goes on with more calls
+more_calls : {N : Type 0} {was memo new : SeatMemo N} → GoesOn was memo → (calls : List (Outcome N)) → new.log ≡ memo.log ++ calls → new.rests ≡ memo.rests
+    → GoesOn was new
+more_calls {was = was} on calls more same = record {
+  calls = on.calls ++ calls;
+  log_is = more ∙ ap (λ log. log ++ calls) on.log_is ∙ append_assoc was.log on.calls calls;
+  rests = on.rests;
+  rests_are = same ∙ on.rests_are;
+}
 
 module _ {O D T N : Type 0} {note : D → N} {Ao : T → O → Type 0} {An : T → N → Type 0} {key : Key T} {s : State (Slot O D) (View T N)}
     (r : Runs note Ao An key s) where
@@ -33,12 +43,13 @@ module _ {O D T N : Type 0} {note : D → N} {Ao : T → O → Type 0} {An : T �
     fates_on : (t j : ℕ) (x : N) → get_elem? r.fates t ≡ some (Some (j, x)) → get_elem? later t ≡ some (Some (j, x))
     others_took : (j : ℕ) → j ≢ memo.number → taken_by j 0 later ≡ taken_by j 0 r.fates
     ordered : IsOrdered new
+    log_on : (calls : List (Outcome N)) × (new.log ≡ memo.log ++ calls)
     below_claims : end_from 0 new.log ≤ r.machine.word.claimed
     got : got_of new.log ≡ taken_by memo.number 0 later
     at_front : (j g : ℕ) → get_elem? new.log j ≡ some (Lost g) → StandsIn r.keeper.fronts g
 
   module _ (id : ℕ) {memo : SeatMemo N} (at : get_elem? s.views id ≡ some (Sits key memo)) where
-    its : IsSeatMemo r.machine r.moves r.fates r.keeper.fronts r.keeper.made memo
+    its : IsSeatMemo r.machine r.moves r.fates r.keeper.fronts r.keeper.released r.keeper.made memo
     its = (seated r id at).2
 
     made_there : memo.number < length r.machine.seats
@@ -51,11 +62,13 @@ module _ {O D T N : Type 0} {note : D → N} {Ao : T → O → Type 0} {An : T �
         → Runs note Ao An key record { words = words; homes = homes; views = set s.views id (Sits key new) }
     seat_runs {step} {later} {new} {words} {homes} to told slots =
         let moves : List Move = and_move r.moves step (found_at r.machine step) in
-        let mine : IsSeatMemo (after r.machine step) moves later r.keeper.fronts r.keeper.made new =
-        grind (arith, its, to, r.knows.counted, eq-eqb, made_there, by_seat-on, seat_at-here) in
+        let on : (p : ℕ) (was : SeatMemo N) → get_elem? r.keeper.released p ≡ some was → was.number ≡ new.number → GoesOn was new =
+        λ p was e same. more_calls (its.goes_on p was e (same ∙ to.same.0)) to.log_on.0 to.log_on.1 to.same.2 in
+        let mine : IsSeatMemo (after r.machine step) moves later r.keeper.fronts r.keeper.released r.keeper.made new =
+        grind (arith, its, to, on, r.knows.counted, eq-eqb, made_there, by_seat-on, seat_at-here) in
         let others : (other : SeatMemo N) → other.number ≢ memo.number
-        → IsSeatMemo r.machine r.moves r.fates r.keeper.fronts r.keeper.made other
-        → IsSeatMemo (after r.machine step) moves later r.keeper.fronts r.keeper.made other =
+        → IsSeatMemo r.machine r.moves r.fates r.keeper.fronts r.keeper.released r.keeper.made other
+        → IsSeatMemo (after r.machine step) moves later r.keeper.fronts r.keeper.released r.keeper.made other =
         λ other away knew. grind (arith, to, r.knows.counted, knew, ne_eqb, made_there, by_seat-on, seat_at-else) in
         record {
           sizes = r.sizes;
@@ -83,6 +96,7 @@ module _ {O D T N : Type 0} {note : D → N} {Ao : T → O → Type 0} {An : T �
         × (got_of (and_lost r.machine.word memo.log) ≡ got_of memo.log)
         × ((j g : ℕ) → get_elem? (and_lost r.machine.word memo.log) j ≡ some (Lost g) → StandsIn r.keeper.fronts g)
         × SeesRests memo.rests (and_lost r.machine.word memo.log)
+        × ((calls : List (Outcome N)) × (and_lost r.machine.word memo.log ≡ memo.log ++ calls))
     order_now =
         -- where none is free, the number of claims is the last front
         let front : r.machine.word.free ≡ 0 → StandsIn r.keeper.fronts r.machine.word.claimed =
@@ -94,7 +108,11 @@ module _ {O D T N : Type 0} {note : D → N} {Ao : T → O → Type 0} {An : T �
         let last = λ (j g : ℕ). at_snoc memo.log call (Lost g) j in
         let sees : r.machine.word.free ≡ 0 → SeesRests memo.rests (memo.log ++ call ∷ []) = λ full. sees_on memo.rests memo.log call its.ordered.sees
         (λ l g rest at e. let known = its.rested l rest at in let all = all_claimed r.machine (ring_of r) full in grind (arith, e)) in
-        grind (arith, its, on, sees, append-nil (got_of memo.log), end_on 0 memo.log call, got_of-append memo.log (call ∷ []))
+        let more : (calls : List (Outcome N)) × (and_lost r.machine.word memo.log ≡ memo.log ++ calls) = elim (cases_lt 0 r.machine.word.free) [
+          | inl free ↦ ([], rw (lt-ltb 0 r.machine.word.free free) (sym (append-nil memo.log)))
+          | inr past ↦ (call ∷ [], rw (le-ltb 0 r.machine.word.free past) refl)
+        ] in
+        grind (arith, its, on, sees, more, append-nil (got_of memo.log), end_on 0 memo.log call, got_of-append memo.log (call ∷ []))
 
     -- a claim of an armed seat
     module _ (armed : memo.view.armed ≡ true) where
@@ -184,8 +202,9 @@ module _ {O D T N : Type 0} (note : D → N) (Ao : T → O → Type 0) (An : T �
   mark_ready kind low few = rw sits (λ s r _ at _.
       let m : Machine = r.machine in
       let holders = holders_stay m.seats memo.number (marked kind (seat_at m.seats memo.number)) (made_there r id at) in
+      let none : (calls : List (Outcome N)) × (memo.log ≡ memo.log ++ calls) = ([], sym (append-nil memo.log)) in
       let to : IsStepTo r memo (Mark memo.number kind) r.fates (adds_mark kind (slice_index s.words (kind + 1)) memo) =
-      grind (arith, its r id at, small m (ring_of r), r.words_are, (seated r id at).1, lt-ltb, holders) in
+      grind (arith, none, its r id at, small m (ring_of r), r.words_are, (seated r id at).1, lt-ltb, holders) in
       let told : set s.words (kind + 1) ((slice_index s.words (kind + 1) + 1) % 2 ^ 64) ≡ words_of (after m (Mark memo.number kind)) =
       grind (arith, r.words_are, small m (ring_of r)) in (
         Sits key (adds_mark kind (slice_index s.words (kind + 1)) memo),
@@ -224,8 +243,9 @@ module _ {O D T N : Type 0} (note : D → N) (Ao : T → O → Type 0) (An : T �
       let others = λ (j : ℕ) (other : j ≢ memo.number). taken-else j memo.number 0 (note d) r.fates t other open_now in
       let last = λ (j g : ℕ). at_snoc memo.log call (Lost g) j in
       let sees = sees_on memo.rests memo.log call knows.ordered.sees (λ l g rest at e. grind (arith, e)) in
+      let more : (calls : List (Outcome N)) × (memo.log ++ call ∷ [] ≡ memo.log ++ calls) = (call ∷ [], refl) in
       let to : IsStepTo r memo (Finish memo.number) later (finishes (note d) memo) =
-      grind (arith, knows, held, out, no_ticket r id at, got_of-append memo.log (call ∷ []), end_on 0 memo.log call, length_push memo.log call) in
+      grind (arith, more, knows, held, out, no_ticket r id at, got_of-append memo.log (call ∷ []), end_on 0 memo.log call, length_push memo.log call) in
       let three : t % key.positions + 3 ≡ suc (suc (suc (t % key.positions))) = omega arith in (
         Sits key (finishes (note d) memo),
         gives,

@@ -82,6 +82,7 @@ module _ {N : Type 0} where
     pub offer_keeps_settled : IsSettled old → IsSettled new
     offer_keeps_settled s = subst IsSettled (sym tells.1.3) record {
       order = rw tells.1.3 at (offer_keeps_order s.order);
+      go_on = s.go_on;
       taken = s.taken;
       notes_are = s.notes_are;
       seats_are = s.seats_are;
@@ -149,6 +150,7 @@ module _ {O D T N : Type 0} {note : D → N} {Ao : T → O → Type 0} {An : T �
         seats_are = λ t i x e. (r.are_fates.finished t i x (rw all.2 (at_map Some all.0 t (i, x) e))).0;
         logs_are = whole_log all.0 all.2;
         order = one_order seen;
+        go_on = λ p was memo rel at. let its = r.each_seat was.number (Some memo) at in its.2.goes_on p was rel (sym its.0);
       }
 
   -- so once all seats are back, the next ticket is finished only where some was not reaped

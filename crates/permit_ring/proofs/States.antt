@@ -121,5 +121,5 @@ module _ {O D T N : Type 0} {note : D → N} {Ao : T → O → Type 0} {An : T �
 
     -- at its own port, live, and knows
     pub seated : (r.owner memo.number ≡ id) × (memo.view.live ≡ true)
-        × IsSeatMemo r.machine r.moves r.fates r.keeper.fronts r.keeper.made memo
+        × IsSeatMemo r.machine r.moves r.fates r.keeper.fronts r.keeper.released r.keeper.made memo
     seated = let v = r.each_view id (Sits its memo) at in (v.1, v.2, v.3)

@@ -3,7 +3,7 @@ use Rattle.std.specs.Prelude.{◌≡◌, ℕ, zero, suc, ◌<◌, ◌≤◌, Lis
 use mathlib.Core.Option.{some}
 use lib.ListN.{get_elem?}
 use Rattle.permit_ring.specs.Names.{KeeperMemo, SeatMemo, marks_of, AreAllDecided}
-use Rattle.permit_ring.specs.Logs.{SeesRests, end_from, fate_of, got_of, taken_by}
+use Rattle.permit_ring.specs.Logs.{GoesOn, SeesRests, end_from, fate_of, got_of, taken_by}
 use Rattle.permit_ring.specs.Order.{HaveOneOrder}
 use Rattle.permit_ring.specs.Rule.{StandsIn}
 
@@ -26,6 +26,10 @@ module _ {N : Type 0} where
     -- it got just the tickets that are its own
     pub got : got_of memo.log ≡ taken_by i 0 (map Some taken)
 
+  -- each seat that came back goes on from what it was when it was released
+  abbrev pub ReleasedGoOn : KeeperMemo N → Type 0
+  ReleasedGoOn k = (p : ℕ) (was memo : SeatMemo N) → get_elem? k.released p ≡ some was → get_elem? k.back was.number ≡ some (Some memo) → GoesOn was memo
+
   -- all that was claimed was reaped: the notes are the logs of all seats merged, each ticket once
   pub record IsSettled (k : KeeperMemo N) : Type 0 where
     -- each ticket's seat and note
@@ -34,6 +38,7 @@ module _ {N : Type 0} where
     pub seats_are : (t i : ℕ) (x : N) → get_elem? taken t ≡ some (i, x) → i < k.made
     pub logs_are : (i : ℕ) (memo : SeatMemo N) → get_elem? k.back i ≡ some (Some memo) → IsWholeLog k.fronts taken i memo
     pub order : HaveOneOrder k
+    pub go_on : ReleasedGoOn k
 
   -- the marks of a kind that a seat made which came back
   abbrev pub marks_back : ℕ → Option (SeatMemo N) → ℕ

@@ -13,10 +13,10 @@ pub mod Seats
 pub mod Steps
 pub mod Told
 pub use Rattle.permit_ring.specs.Calls.{ClaimTells, ReapTells, reaps_all, ReapsToEnd, TriesTell, OfferTells, OffersAll, claimed_at, ticket_got, vacant_after, tried, last_word}
-pub use Rattle.permit_ring.specs.Closing.{AreAllBack, AreAllSwept, IsAllReaped, IsWholeLog, IsSettled, marks_back, swept_of}
+pub use Rattle.permit_ring.specs.Closing.{AreAllBack, AreAllSwept, IsAllReaped, IsWholeLog, ReleasedGoOn, IsSettled, marks_back, swept_of}
 pub use Rattle.permit_ring.specs.Hands.{hand_from, filled_then, AllAdmitted}
 pub use Rattle.permit_ring.specs.Live.{after_moves, asks, finds_none, reads_mark, finds_unready, AllTakenOrHeld, led, state_before, HasGivenBack, left_and_since}
-pub use Rattle.permit_ring.specs.Logs.{fate_of, start_of, end_of, RisesFrom, end_from, got_of, taken_by, undecided, SeesRests, IsOrdered}
+pub use Rattle.permit_ring.specs.Logs.{fate_of, start_of, end_of, RisesFrom, end_from, got_of, taken_by, undecided, SeesRests, IsOrdered, GoesOn}
 pub use Rattle.permit_ring.specs.Making.{IsUntouched, made_memo, IsNewSeat, AreNewSeats, IsNewRing}
 pub use Rattle.permit_ring.specs.Moves.{found_at, move, Leads, is_of_seat, is_of_keeper, by_seat, by_keeper}
 pub use Rattle.permit_ring.specs.Names.{SeatView, Step, Look, Claim, Finish, See, Read, Offer, Mark, Sweep, Split, Join, Resume, PermitWord, Key, KeeperMemo, Move, Outcome, Lost, Got, Rest, SeatMemo, Slot, Empty, Offered, Finished, View, Sits, Keeps, Spent, Ring, Seat}

@@ -1,5 +1,5 @@
 -- What became of the calls of a seat, and of the tickets of a ring.
-use Rattle.std.specs.Prelude.{◌≡◌, ℕ, suc, ◌+◌, ◌≤◌, ◌==◌, ◌||◌, is_some, if◌then◌else◌, List, [], ◌∷◌, map, length, Option, Some, None}
+use Rattle.std.specs.Prelude.{◌≡◌, ℕ, suc, ◌+◌, ◌≤◌, ◌==◌, ◌||◌, is_some, if◌then◌else◌, List, [], ◌∷◌, ◌++◌, map, length, Option, Some, None}
 use Rattle.ids_types.specs.Fates as fates
 use mathlib.Core.Option.{some}
 use lib.ListN.{get_elem?}
@@ -54,3 +54,10 @@ pub record IsOrdered {N : Type 0} (memo : SeatMemo N) : Type 0 where
   pub rises : RisesFrom 0 memo.log
   pub sees : SeesRests memo.rests memo.log
   pub below_ticket : (t : ℕ) → Holds memo.view t → end_from 0 memo.log ≤ t
+
+-- the seat has made more calls and rests since, or none
+pub record GoesOn {N : Type 0} (was now : SeatMemo N) : Type 0 where
+  pub calls : List (Outcome N)
+  pub log_is : now.log ≡ was.log ++ calls
+  pub rests : List Rest
+  pub rests_are : now.rests ≡ was.rests ++ rests

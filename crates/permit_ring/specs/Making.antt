@@ -19,6 +19,7 @@ pub record IsUntouched {N : Type 0} (n seats : ℕ) (k : KeeperMemo N) : Type 0 
   pub seen_is : k.seen ≡ all_free n
   pub made_is : k.made ≡ seats
   pub back_is : k.back ≡ replicate seats None
+  pub none_released : k.released ≡ []
   -- its steps made the seats; the first is there from the start
   pub moves_are : k.moves ≡ replicate (seats - 1) (move Split 0)
 

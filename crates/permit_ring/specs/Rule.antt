@@ -5,7 +5,7 @@ use mathlib.Core.Option as maybe
 use lib.ListN.{get_elem?}
 use Rattle.atomic_table.specs.Table.{State}
 use Rattle.permit_ring.specs.Names.{PermitWord, Key, KeeperMemo, Move, Lost, Rest, SeatMemo, Slot, Offered, Finished, View, Sits, Keeps, Spent, Machine, opening, new_seat, seat_at, Holds, packed}
-use Rattle.permit_ring.specs.Logs.{IsOrdered, end_from, got_of, taken_by}
+use Rattle.permit_ring.specs.Logs.{GoesOn, IsOrdered, end_from, got_of, taken_by}
 use Rattle.permit_ring.specs.Moves.{Leads, by_seat, by_keeper}
 use Rattle.permit_ring.specs.Steps.{first_memo}
 
@@ -56,8 +56,8 @@ module _ {N : Type 0} where
     pub finished : (t i : ℕ) (x : N) → get_elem? fates t ≡ some (Some (i, x)) → (i < made) × Admits x
 
   -- what a seat knows
-  pub record IsSeatMemo (m : Machine) (moves : List Move) (fates : List (Option (ℕ × N))) (fronts : List ℕ) (made : ℕ)
-      (memo : SeatMemo N) : Type 0 where
+  pub record IsSeatMemo (m : Machine) (moves : List Move) (fates : List (Option (ℕ × N))) (fronts : List ℕ)
+      (released : List (SeatMemo N)) (made : ℕ) (memo : SeatMemo N) : Type 0 where
     pub is_made : memo.number < made
     -- itself
     pub shows : memo.view ≡ seat_at m.seats memo.number
@@ -72,6 +72,8 @@ module _ {N : Type 0} where
     pub lost_at_front : (j g : ℕ) → get_elem? memo.log j ≡ some (Lost g) → StandsIn fronts g
     -- what had been offered at a rest still is
     pub rested : (l : ℕ) (rest : Rest) → get_elem? memo.rests l ≡ some rest → rest.offered ≤ m.offered
+    -- it goes on from what it was when it was released
+    pub goes_on : (p : ℕ) (was : SeatMemo N) → get_elem? released p ≡ some was → was.number ≡ memo.number → GoesOn was memo
 
   -- what the keeper knows
   pub record IsKeeperMemo (n : ℕ) (m : Machine) (moves : List Move) (fates : List (Option (ℕ × N))) (k : KeeperMemo N) : Type 0 where
@@ -82,6 +84,7 @@ module _ {N : Type 0} where
     -- seat 0 is there before it is made
     pub made_is : ((1 ≤ k.made) × (k.made ≡ length m.seats)) ⊎ ((k.made ≡ 0) × (m.seats ≡ new_seat ∷ []))
     pub back_is : length k.back ≡ k.made
+    pub released_are : (p : ℕ) (was : SeatMemo N) → get_elem? k.released p ≡ some was → was.number < k.made
     -- a seat that is not made yet has made no move
     pub unmade_rest : (i : ℕ) → k.made ≤ i → by_seat i moves ≡ []
 
@@ -122,14 +125,14 @@ module _ {T N : Type 0} (key : Key T) (m : Machine) (moves : List Move) (fates :
   -- the view at a port: there is one keeper, and each number belongs to one seat
   abbrev pub IsViewAt : ℕ → View T N → Type 0
   IsViewAt port (Sits its memo) = (its ≡ key) × (owner memo.number ≡ port) × (memo.view.live ≡ true)
-      × IsSeatMemo m moves fates k.fronts k.made memo
+      × IsSeatMemo m moves fates k.fronts k.released k.made memo
   IsViewAt port (Keeps its other) = port ≡ 0
   IsViewAt port Spent = Unit {0}
 
   -- a seat that was made sits at its port, or came back
   abbrev pub IsSomewhere : ℕ → Option (SeatMemo N) → Type 0
   IsSomewhere i None = (memo : SeatMemo N) × (memo.number ≡ i) × (get_elem? views (owner i) ≡ some (Sits key memo))
-  IsSomewhere i (Some memo) = (memo.number ≡ i) × (memo.view.live ≡ false) × IsSeatMemo m moves fates k.fronts k.made memo
+  IsSomewhere i (Some memo) = (memo.number ≡ i) × (memo.view.live ≡ false) × IsSeatMemo m moves fates k.fronts k.released k.made memo
 
 module _ {O D T N : Type 0} (note : D → N) (admits_offered : T → O → Type 0) (admits_note : T → N → Type 0) where
   -- there is a state of the ring machine, reached by moves, of which the words, the slots and all views tell

@@ -62,6 +62,7 @@ module _ {N : Type 0} where
     seen = all_free n;
     made = 0;
     back = [];
+    released = [];
     moves = [];
   }
 
@@ -114,15 +115,19 @@ module _ {N : Type 0} where
   first_back (None ∷ back) = first_back back
   first_back (Some memo ∷ back) = Some memo
 
-  -- after a seat that was back went on
-  abbrev pub resumes : SeatMemo N → KeeperMemo N → KeeperMemo N
-  resumes memo k = record k { back = slice_set k.back memo.number None; moves = and_move k.moves (Resume memo.number) 0 }
-
   -- the memo of a seat that goes on, where so many positions were offered
   abbrev pub resumed : ℕ → SeatMemo N → SeatMemo N
   resumed offered memo = record memo {
     view = record memo.view { live = true };
     rests = memo.rests ++ record { calls = memo.view.calls; offered = offered } ∷ [];
+  }
+
+  -- after a seat that was back went on
+  abbrev pub resumes : SeatMemo N → KeeperMemo N → KeeperMemo N
+  resumes memo k = record k {
+    back = slice_set k.back memo.number None;
+    released = k.released ++ resumed k.offered memo ∷ [];
+    moves = and_move k.moves (Resume memo.number) 0;
   }
 
   -- the keeper after that, where a seat is back

@@ -70,6 +70,8 @@ pub struct KeeperMemo<N> {
     pub made: u8,
     /// For each of them, the memo with which it came back.
     pub back: LinkedList<Option<SeatMemo<N>>>,
+    /// The memo of each seat that was released, as it then was.
+    pub released: LinkedList<SeatMemo<N>>,
     pub moves: LinkedList<Move>,
 }
 

@@ -24,6 +24,7 @@ module _ {N : Type 0} where
       let on : (g : ℕ) → StandsIn old.fronts g → StandsIn new.fronts g =
       λ g s. grind (arith, did.fronts_are, eq-zero-or-pos count, more_fronts old.fronts (old.offered + count) g s) in
       record {
+        go_on = rw (did.released_is, did.back_is) is.go_on;
         of_callers = rw (did.notes_are, did.back_is) is.of_callers;
         whole = λ i caller e.
             let its = is.whole i caller (rw did.back_is at e) in
@@ -56,4 +57,5 @@ module _ {N : Type 0} where
           let its = s.logs_are i memo at in
           rw s.notes_are (grind (arith, its, names i memo at, length-map s.taken (λ (x : ℕ × Item N). x.1), same_items i 0 s.taken owner));
       order = s.order;
+      go_on = s.go_on;
     }

@@ -3,7 +3,7 @@ use Rattle.std.specs.Prelude.{◌≡◌, ℕ, suc, ◌<◌, ◌==◌, if◌then�
 use mathlib.Core.Option.{some}
 use lib.ListN.{get_elem?}
 use Rattle.ids_types.specs.Fates.{AreAllDecided}
-use Rattle.permit_ring.specs.{SeesRests, fate_of, got_of, HaveOneOrder, StandsIn}
+use Rattle.permit_ring.specs.{SeesRests, fate_of, got_of, HaveOneOrder, ReleasedGoOn, StandsIn}
 use Rattle.report_queue.specs.Names.{KeeperMemo, SeatMemo, Item}
 use Rattle.report_queue.specs.Items.{NamesItsCalls}
 
@@ -30,3 +30,4 @@ module _ {N : Type 0} where
     pub whole : (i : ℕ) (caller : SeatMemo (Item N)) → get_elem? k.back i ≡ some (Some caller)
         → IsWholeCaller k.fronts k.notes i caller
     pub order : HaveOneOrder k
+    pub go_on : ReleasedGoOn k

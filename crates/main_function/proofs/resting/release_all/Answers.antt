@@ -2,6 +2,7 @@ use Rattle.main_function.proofs.Names.{◌≡◌, ◌∙◌, ℕ, ◌+◌, lengt
 use Rattle.atomic_table.proofs.Lists.{at_index, at_map}
 use Rattle.buffer_classes.proofs.{all_below}
 use Rattle.report_queue.proofs.{at_map_back}
+use Rattle.main_function.proofs.Names.{take_all}
 use Rattle.main_function.proofs.HoldLemmas.{next_pass, releasing_more}
 use Rattle.main_function.proofs.resting.release_all.Goals.{After-index-passes-i as In-Loop}
 use Rattle.main_function.proofs.resting.release_all.Goals as goal
@@ -30,6 +31,11 @@ returns-clause-passes g c =
           let found = at_map_back g.P.HasPass.its c.loop-i.passes k pass at in
           rw (← found.2) (was.went_on k found.0 (omega (arith, c.loop-i-test.false, c.loop-i.auto.passes, at_length c.loop-i.passes k found.0 found.1)) found.1),
     )
+
+pub returns-clause-remembers : goal.returns-clause-remembers
+returns-clause-remembers g c =
+    let was = c.loop-i.invariant in
+    rw (take_all c.loop-i.i c.loop-i.passes (omega (arith, c.loop-i-test.false, c.loop-i.auto.passes))) at was.remembered
 
 pub returns-clause-stays : goal.returns-clause-stays
 returns-clause-stays g c = all_below c.loop-i.invariant.stay (omega (arith, c.loop-i-test.false))

@@ -79,6 +79,7 @@ returns g c =
         };
         makes = makes;
         back_is = (turn_adds _ _ _ _ _ makes).back_is;
+        released_is = (turn_adds _ _ _ _ _ makes).released_is;
         buffers = record { back = c.turn.new.back.items; same = out.2; gave = gave };
         stands_then = λ config turns is. stands_more g.C.Chain.stands config turns _ _ _ taken is
             (c.turn.ensures.stands config turns is.chain_stands) c.requires.later makes mine.offered_is refl refl refl;

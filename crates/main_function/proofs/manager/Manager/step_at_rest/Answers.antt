@@ -1,4 +1,4 @@
-use Rattle.main_function.proofs.Names.{◌≡◌, ◌∙◌, length, length-map, map, came, desk_memo, ap, arith, refl, AllOf, pass_memo, Pass}
+use Rattle.main_function.proofs.Names.{◌≡◌, ◌∙◌, ◌++◌, DeskMemo, length, length-map, map, came, desk_memo, ap, arith, refl, AllOf, pass_memo, Pass}
 use Rattle.buffer_classes.proofs.{all_then}
 use Rattle.main_function.specs.{Closed, memos_of}
 use Rattle.main_function.proofs.ClosingLemmas.{closed_by, mine_back}
@@ -45,6 +45,8 @@ returns-clause-rested g c =
       moved = rw (many g d, ← c.hold_all.ensures.stays.as_many) c.release_all.ensures.moved;
       stands_then = λ config turns. stands_moved g.C.Chain.events g.C.Chain.kept c.args.shared.now c.step.new.self c.release_all.new.desk _
           c.release_all.ensures.moved g.C.Chain.stands config turns;
+      remembers = c.release_all.ensures.remembers ∙ ap (λ released. released ++ memos_of g.P.HasPass.its c.release_all.new.passes)
+          (did.turned.released_is ∙ ap (λ (k : DeskMemo). k.released) (c.hold_all.ensures.told ∙ (only_back memos (desk_memo c.args.self.now.desk)).0));
       as_many = as_many g.P.HasPass.its c.args.shared.now c.step.new.self.desk c.args.passes.now c.release_all.new.passes c.release_all.ensures.passes (after_turn g d);
       go_on = back_now g.P.HasPass.its c.args.shared.now c.step.new.self.desk c.args.passes.now c.release_all.new.passes c.release_all.ensures.passes (after_turn g d);
     }
