@@ -1,16 +1,15 @@
 -- The end of a replay: from where its callers and its manager stand to what it gives.
-use Rattle.trace_replay.proofs.Names.{CanPlay, cases_lt, inl, inr, ◌≡◌, ℕ, suc, ◌+◌, List, [], ◌∷◌, length, map, refl, sym, ap, ◌∙◌, arith, AllByRecursion, length-map, map-append, take_all, Turn, Parts, IsValid, all_losses, losses_from, last_tick, ticks_of, AreRounds, Buffer, PassMemo, pass_memo, Shared, fates_in, losses_in, Traced, HavePlayed, Closes, IsRecordOf, IsSmallTurn, tick_of, turns_in, IsBetween, all_rests, as_told, losses_by, passes_of, Caller, Recorder, at_map_back, some, all_append, get_elem?}
+use Rattle.trace_replay.proofs.Names.{CanPlay, cases_lt, inl, inr, ◌≡◌, ℕ, suc, ◌+◌, List, [], ◌∷◌, length, map, refl, sym, ap, ◌∙◌, arith, AllByRecursion, append-nil, at_map, length-map, map-append, take_all, Turn, Parts, IsValid, all_losses, losses_from, last_tick, ticks_of, AreRounds, Buffer, PassMemo, pass_memo, Shared, fates_in, losses_in, Traced, HavePlayed, Closes, IsRecordOf, IsSmallTurn, tick_of, turns_in, IsBetween, all_rests, as_told, losses_by, Plays, views_of, Caller, Recorder, at_map_back, some, all_append, get_elem?}
 use Rattle.trace_text.specs.Small.{AreSmall}
 use Rattle.trace_text.proofs.JournalLemmas.{merge_fits}
 use Rattle.law_closing.proofs.SizeLemmas.{first_is_small}
-use Rattle.law_closing.specs.Closed.{IsMadeFor}
+use Rattle.law_closing.specs.Closed.{IsMadeFor, came}
 use Rattle.trace_replay.specs.Replayed.{IsReplayOver, given}
+use Rattle.permit_ring.specs.{GoesOn, ended}
+use Rattle.trace_replay.specs.{released_by}
+use Rattle.trace_replay.proofs.PastLemmas.{past_rested, past_still}
 use Rattle.trace_replay.proofs.MergeLemmas.{merged, no_lines}
 use Rattle.trace_replay.proofs.RoundLemmas.{at_rest}
-
--- what the passes of callers show
-abbrev pub views_of : List Caller → List PassMemo
-views_of callers = map pass_memo (passes_of callers)
 
 -- the losses of callers that list what they lost, one caller after another
 all_listed : (n from : ℕ) (callers : List Caller)
@@ -22,28 +21,28 @@ all_listed n from (caller ∷ callers) each =
     let rest = all_listed n (suc from) callers (λ i j c is. each (suc i) j c (omega (arith, is))) in
     cc (each 0 from caller (omega arith) refl, rest)
 
-all_map : {A : Type 0} (P Q : A → Type 0) → ((x : A) → P x → Q x) → (xs : List A) → AllByRecursion P xs → AllByRecursion Q xs
+pub all_map : {A : Type 0} (P Q : A → Type 0) → ((x : A) → P x → Q x) → (xs : List A) → AllByRecursion P xs → AllByRecursion Q xs
 all_map P Q f [] all = tt
 all_map P Q f (x ∷ xs) all = (f x all.0, all_map P Q f xs all.1)
 
 module _ {C : Type 0} {stands : C → Parts → List Turn → Type 0} {events : C → ℕ} {kept : C → List Buffer} {config : Parts} {shared : Shared} {trace : Traced}
-    {callers : List Caller} {r1 r2 : Recorder C} {tick : ℕ} (between : IsBetween events kept shared trace (length trace.rounds) callers r1)
-    (was : IsRecordOf stands config r1) (closes : Closes stands events kept shared tick (views_of callers) r1 r2) (tick_is : tick ≡ last_tick trace.rounds)
+    {callers : List Caller} {r1 r2 : Recorder C} {tick : ℕ} {r0 : Recorder C} (plays : Plays stands events kept shared trace (length trace.rounds) callers r0 r1)
+    (begun : IsRecordOf stands config r0) (closes : Closes stands events kept shared tick (views_of callers) r1 r2) (tick_is : tick ≡ last_tick trace.rounds)
     (valid : IsValid config) (of_config : trace.callers ≡ config.callers) (rounds : AreRounds config trace.rounds)
     {positions : ℕ} (can : CanPlay shared positions trace) (made_for : IsMadeFor config shared) where
   -- it is a replay of the rounds
   pub is_replay : IsReplayOver stands events kept config trace.rounds r2.manager (given r2 (losses_by callers))
   is_replay =
+      let between = plays.between in
+      let was = plays.records config begun in
       let recorded = closes.advances.records config was in
       let whole = take_all (length trace.rounds) trace.rounds (omega arith) in
       let listed = λ (i : ℕ) (caller : Caller) (at : get_elem? callers i ≡ some caller).
       rw (whole, made_for.positions_are, made_for.sizes) at (at_rest shared trace.rounds (length trace.rounds) callers between.at_rest i caller at).listed in
       let played : HavePlayed config trace.rounds (views_of callers) = record {
-        all = length-map (passes_of callers) pass_memo ∙ length-map callers (λ (c : Caller). c.pass) ∙ between.as_many ∙ of_config;
+        all = length-map callers (λ (c : Caller). pass_memo c.pass) ∙ between.as_many ∙ of_config;
         each = λ i view at.
-            let pass = at_map_back pass_memo (passes_of callers) i view at in
-            let caller = at_map_back (λ (c : Caller). c.pass) callers i pass.0 pass.1 in
-            rw (sym pass.2, sym caller.2) (listed i caller.0 caller.1).played;
+            let caller = at_map_back (λ (c : Caller). pass_memo c.pass) callers i view at in rw (sym caller.2) (listed i caller.0 caller.1).played;
       } in
       let small : AllByRecursion (IsSmallTurn config.ring) (turns_in r2) = rw (closes.advances.turns_are, ← made_for.positions_are)
       (all_append _ (turns_in r1) closes.advances.turns between.small closes.advances.small) in
@@ -63,6 +62,10 @@ module _ {C : Type 0} {stands : C → Parts → List Turn → Type 0} {events : 
         few_entries = rw (← recorded.stands_for.reports_show.items_are, length-map) (omega (arith, closes.advances.manager_is.items_within));
         heads = all_map (IsSmallTurn config.ring) _ (λ turn is. assumption is.head_is) (turns_in r2) small;
       } in
+      let gone : (p : ℕ) (before pass : PassMemo) → get_elem? (released_by r2) p ≡ some before → get_elem? (views_of callers) before.number ≡ some pass → GoesOn before pass =
+      λ p before pass rel at.
+      let on = closes.go_on p before (ended pass) rel (rw closes.back_is (at_map came (views_of callers) before.number pass at)) in
+      record { calls = on.calls; log_is = on.log_is; rests = on.rests; rests_are = on.rests_are } in
       record {
         merged = rw losses_are merge;
         fits = rw losses_are (merge_fits config trace.rounds (turns_in r2) (losses_in config.ring (views_of callers)) valid rounds are_small merge);
@@ -80,4 +83,7 @@ module _ {C : Type 0} {stands : C → Parts → List Turn → Type 0} {events : 
         played = played;
         calls = closes.all_calls config made_for was;
         losses_are = losses_are;
+        rested = λ k less. rw losses_are (past_rested (views_of callers) played.all
+            (past_still closes.advances.turns [] (rw of_config at (plays.pasts config made_for begun k less)) closes.advances.turns_are
+            (closes.released_is ∙ sym (append-nil (released_by r1)))) gone (closes.all_calls config made_for was).sees);
       }

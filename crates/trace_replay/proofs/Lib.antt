@@ -1,8 +1,10 @@
 pub mod EndLemmas
 pub mod MergeLemmas
 pub mod Names
+pub mod PastLemmas
 pub mod RecordingLemmas
 pub mod RestLemmas
 pub mod RoundLemmas
+pub mod RoundLossLemmas
 pub mod StartLemmas
 pub mod SyncLemmas

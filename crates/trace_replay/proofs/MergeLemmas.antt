@@ -96,24 +96,25 @@ no_lines n caller [] each past = refl
 no_lines n caller (round ∷ rounds) each past =
     rw (get_or_past round.lines caller [] (omega (arith, each.0, past))) (no_lines n caller rounds each.1 past)
 
+-- the calls of a caller are those of its pass
+calls_at : (passes : List PassMemo) (i : ℕ) (pass : PassMemo) → get_elem? passes i ≡ some pass → calls_by passes i ≡ calls_in pass.log
+calls_at passes i pass at = or_at _ i [] _ (at_map (λ (p : PassMemo). calls_in p.log) passes i pass at)
+
+module _ (sizes : List ℕ) (rounds : List Round) (passes : List PassMemo) (n : ℕ) (lines : AllByRecursion (λ round. length round.lines ≡ n) rounds)
+    (all : length passes ≡ n) (played : (i : ℕ) (pass : PassMemo) → get_elem? passes i ≡ some pass → HasPlayed sizes (lines_of i rounds) pass) where
+  -- each caller made as many calls as it has lines
+  pub as_many_calls : (caller : ℕ) → length (calls_by passes caller) ≡ length (lines_of caller rounds)
+  as_many_calls caller = elim (below_or passes caller) [
+    | inl its ↦ rw (calls_at passes caller its.0 its.1, length-map) (AllZip-long (Answers sizes) (lines_of caller rounds) its.0.log (played caller its.0 its.1).each)
+    | inr past ↦
+        let none = get_or_past (map (λ (p : PassMemo). calls_in p.log) passes) caller [] (rw length-map past) in
+        rw (none, no_lines n caller rounds lines (omega (arith, past, all))) refl
+  ]
+
 module _ (config : Parts) (rounds : List Round) (turns : List Turn) (passes : List PassMemo)
     (small : (bytes : ℕ) → first_fitting bytes (sizes_in config) ≡ too_small config bytes)
     (each : AllByRecursion (λ round. length round.lines ≡ config.callers) rounds) (played : HavePlayed config rounds passes)
     (have : HaveAllCalls config passes turns) where
-  -- the calls of a caller are those of its pass
-  calls_at : (i : ℕ) (pass : PassMemo) → get_elem? passes i ≡ some pass → calls_by passes i ≡ calls_in pass.log
-  calls_at i pass at = or_at _ i [] _ (at_map (λ (p : PassMemo). calls_in p.log) passes i pass at)
-
-  -- each caller made as many calls as it has lines
-  as_many_calls : (caller : ℕ) → length (calls_by passes caller) ≡ length (lines_of caller rounds)
-  as_many_calls caller = elim (below_or passes caller) [
-    | inl its ↦ rw (calls_at caller its.0 its.1, length-map)
-        (AllZip-long (Answers (sizes_in config)) (lines_of caller rounds) its.0.log (played.each caller its.0 its.1).each)
-    | inr past ↦
-        let none = get_or_past (map (λ (p : PassMemo). calls_in p.log) passes) caller [] (rw length-map past) in
-        rw (none, no_lines config.callers caller rounds each (omega (arith, past, played.all))) refl
-  ]
-
   -- an entry's act that is what was asked for is so as plain data
   plainly : (e : Entry (List ℕ)) → StandsIn (entries_of turns) e → (asked : Asked) (act : Act) → plain_act act ≡ e.act → IsAsked (sizes_in config) asked act → IsAsAsked config turns e.caller e.call asked (plain_act act)
   plainly e stands (reports event count stamp bytes) (Report its its_count its_stamp Absent) same is = is
@@ -133,7 +134,7 @@ module _ (config : Parts) (rounds : List Round) (turns : List Turn) (passes : Li
   pub merged : {totals : Totals} → AreSumsOf turns totals → AreCountsOf passes totals → map (λ t. t.head.tick) turns ≡ ticks_of rounds
       → AllByRecursion (λ t. length t.entries ≤ config.ring) turns → IsMerge config rounds turns (losses_in config.ring passes)
   merged sums counts ticks few = record {
-    calls = subst (λ calls. AreMerged config.ring calls turns (losses_in config.ring passes)) (fun_ext as_many_calls) have.merged;
+    calls = subst (λ calls. AreMerged config.ring calls turns (losses_in config.ring passes)) (fun_ext (as_many_calls (sizes_in config) rounds passes config.callers each played.all played.each)) have.merged;
     as_asked = λ e stands.
         let its = have.in_claim_order stands.0 e stands.1 in
         let line = line_at_call (sizes_in config) (lines_of e.caller rounds) its.0.log e.call (Got stands.0 its.1) (played.each e.caller its.0 its.2).each its.3 in
@@ -143,7 +144,7 @@ module _ (config : Parts) (rounds : List Round) (turns : List Turn) (passes : Li
     lost_events = sym sums.lost_events_are ∙ counts.lost_events_are ∙ sym (lost_by_all (sizes_in config) rounds config.ring 0 passes (λ i j pass is at. let same : j ≡ i = omega (arith, is) in rw same (played.each i pass at)));
     lost_contexts = sym sums.lost_contexts_are ∙ counts.lost_contexts_are ∙ sym ((missed_parts 0 (entries_of turns)).0 ∙ missed_by_all (entries_of turns) 0 passes
         (λ e stands. let its = have.in_claim_order stands.0 e stands.1 in omega (arith, at_length passes e.caller its.0 its.2))
-        (λ i j pass is at. let same : j ≡ i = omega (arith, is) in rw same (have.accepted i ∙ ap (entries_from i 0) (calls_at i pass at))));
+        (λ i j pass is at. let same : j ≡ i = omega (arith, is) in rw same (have.accepted i ∙ ap (entries_from i 0) (calls_at passes i pass at))));
     ticks_are = ticks;
     few = few;
   }

@@ -27,7 +27,7 @@ pub use Rattle.text_spec.specs.{begun_round, last_from, is_allowed, AreRounds, I
 pub use Rattle.trace_text.specs.{line_at, Traced, round_at}
 pub use Rattle.trace_replay.specs.Calls.{IsAsked, lost_report, Answers, lost_reports, CallsOnce, Told, loss_of, MayBeAsked}
 pub use Rattle.trace_replay.specs.Played.{HavePlayed, sizes_in}
-pub use Rattle.trace_replay.specs.{Closes, IsRecordOf, IsSmallTurn, tick_of, turns_in, Advances, Continues, StaysSame, StillRecords, all_rests, as_told, rests_before, ticks_before, IsBetween, EndsRound, Plays, HasListed, losses_by, passes_of, HasPlayed, lines_before, AreAtRest, IsAtRest, MayAllBeAsked, calls_of_each, CanPlay}
+pub use Rattle.trace_replay.specs.{Closes, IsRecordOf, IsSmallTurn, tick_of, turns_in, Advances, Continues, TurnsAtRest, StaysSame, StillRecords, all_rests, as_told, rests_before, ticks_before, IsBetween, EndsRound, Plays, HasListed, losses_by, passes_of, views_of, rest_after, rest_by, IsPast, HasPlayed, lines_before, AreAtRest, IsAtRest, MayAllBeAsked, calls_of_each, CanPlay}
 pub use Rattle.trace_replay.specs.declared.caller.Caller.{Caller}
 pub use Rattle.trace_replay.specs.declared.gathered.Gathered.{Gathered}
 pub use Rattle.trace_replay.specs.declared.recorder.Recorder.{Recorder}
@@ -37,5 +37,5 @@ pub use Rattle.std.proofs.lemmas.Grind.{flat_map-append, common_steps}
 pub use Rattle.std.proofs.lemmas.Slice.Zip.{AllZip-long, all_zipped_more}
 pub use denote.Param.Send.{IsSend, IsSync, sendable, whole-keyless, struct_sync, recorded_sync, shr_sync, shr_send, Quiet-if}
 pub use lib.ListN.{get_elem?}
-pub use mathlib.Core.Option.{some}
+pub use mathlib.Core.Option.{some, some-injective}
 pub use mir.Syntax.{named, of_param}

@@ -1,7 +1,11 @@
 -- What was gathered, with one turn more, and with those of one list of ticks after those of another.
-use Rattle.trace_replay.proofs.Names.{◌≡◌, ℕ, List, [], ◌∷◌, ◌++◌, refl, ap, ◌∙◌, arith, append_assoc, length-append, length-map, map-append, Turn, Parts, last_from, Buffer, DeskMemo, Shared, IsManagerOf, rests_told, Turned, Manager, Advances, Continues, turns_in, Gathered, Recorder, all_append}
+use Rattle.trace_replay.proofs.Names.{◌≡◌, ℕ, List, [], ◌∷◌, ◌++◌, refl, sym, subst, ap, ◌∙◌, arith, append_assoc, length-append, length-map, map-append, Turn, Parts, last_from, Buffer, DeskMemo, Shared, IsManagerOf, rests_told, Turned, Manager, Advances, Continues, TurnsAtRest, PassMemo, desk_memo, length, turns_in, Gathered, Recorder, all_append}
 use Rattle.filter_chain.proofs.TranscriptLemmas.{newest_first, transcript_more}
 use Rattle.trace_replay.specs.Recording.{Gathers}
+use Rattle.filter_chain.specs.{Sends}
+use Rattle.law_closing.specs.Closed.{came, plain_item}
+use Rattle.main_function.specs.Resting.{Rested}
+use Rattle.main_function.specs.Standing.{Stands}
 use Rattle.buffer_classes.specs.declared.giver.Giver.{Giver}
 
 pub last_on : (low : ℕ) (ticks more : List ℕ) → last_from low (ticks ++ more) ≡ last_from (last_from low ticks) more
@@ -27,16 +31,19 @@ module _ {C : Type 0} {stands : C → Parts → List Turn → Type 0} {events : 
           count_is = omega (arith, other.count_is, one.count_is, length-append ticks more);
         };
         back_is = then.back_is ∙ first.back_is;
+        released_is = then.released_is ∙ first.released_is;
       }
 
   module _ {old : Recorder C} {m : Manager C} {g : Gathered} (is : IsManagerOf events kept shared old.manager)
       (now : IsManagerOf events kept shared m) (adds : Gathers m.out old.gathered g) where
-    -- a turn that was made and gathered
-    pub advances : {tick : ℕ} {desk : DeskMemo} {givers : List Giver} → Turned stands kept tick desk givers old.manager m
-        → Advances stands events kept shared (tick ∷ []) old (record { manager = m; gathered = g })
-    advances turned =
+    -- a turn that was made and gathered, also where the desk then moved on
+    pub advances : {tick : ℕ} {desk : DeskMemo} {givers : List Giver} {mid : Manager C} → m ≡ record mid { desk = m.desk }
+        → ((config : Parts) (turns : List Turn) → Stands stands config mid turns → Stands stands config m turns)
+        → Turned stands kept tick desk givers old.manager mid → Advances stands events kept shared (tick ∷ []) old (record { manager = m; gathered = g })
+    advances {tick = tick} {mid = mid} is_mid stands_on turned =
         let before = turns_in old in
-        let history = rw turned.log_is at adds.history in
+        let log : m.out.log.turns ≡ turned.turn ∷ [] = ap (λ (x : Manager C). x.out.log.turns) is_mid ∙ turned.log_is in
+        let history = rw log at adds.history in
         record {
           manager_is = now;
           turns = turned.turn ∷ [];
@@ -44,11 +51,40 @@ module _ {C : Type 0} {stands : C → Parts → List Turn → Type 0} {events : 
           ticks_are = ap (λ tick. tick ∷ []) turned.tick_is;
           small = (record { head_is = turned.head_is; few = rw (turned.makes.entries_are, length-map, ← is.positions_are) turned.makes.few }, tt);
           records = λ config was. record {
-            stands_for = rw history (turned.stands_then config before was.stands_for);
-            transcript = rw history (transcript_more was.transcript (turned.sends config before was.stands_for) adds.transcript);
+            stands_for = rw history (stands_on config _ (turned.stands_then config before was.stands_for));
+            transcript = rw history (transcript_more was.transcript
+                (subst (λ out. Sends config before turned.turn out) (sym (ap (λ (x : Manager C). x.out) is_mid)) (turned.sends config before was.stands_for)) adds.transcript);
             causal = rw (history, newest_first before turned.turn) (turned.limited_is config before was.stands_for, was.causal);
           };
-          rests_are = ap rests_told turned.rests_are;
-          last_is = turned.last_is;
-          count_is = turned.turns_are;
+          rests_are = ap rests_told (ap (λ (x : Manager C). x.rests) is_mid ∙ turned.rests_are);
+          last_is = ap (λ (x : Manager C). x.last) is_mid ∙ turned.last_is;
+          count_is = ap (λ (x : Manager C). x.turns) is_mid ∙ turned.turns_are;
+        }
+
+    -- and one that was made at a rest
+    pub at_rest : {tick : ℕ} (passes nows : List PassMemo) → length passes ≡ length (desk_memo old.manager.desk).back → Rested stands kept shared tick passes nows old.manager m
+        → TurnsAtRest stands events kept shared tick passes nows old (record { manager = m; gathered = g })
+    at_rest passes nows all rested =
+        let closed = rested.closed in
+        let log : m.out.log.turns ≡ closed.turned.turn ∷ [] = ap (λ (x : Manager C). x.out.log.turns) rested.new_is ∙ closed.turned.log_is in
+        let history = rw log at adds.history in
+        record {
+          advances = advances rested.new_is rested.stands_then closed.turned;
+          as_many = rested.moved.as_many ∙ ap length closed.are_back ∙ length-map passes came ∙ all;
+          all_calls = λ config made_for was. rw history (closed.all_calls config _ made_for was.stands_for);
+          remembers = rested.remembers;
+          all = rested.as_many;
+          offered = (desk_memo rested.mid.desk).offered;
+          each = rested.go_on;
+          offered_is = λ config made_for was.
+              let shows = (rested.stands_then config _ (closed.turned.stands_then config (turns_in old) was.stands_for)).reports_show.items_are in
+              rw history (omega (
+                arith,
+                ap (λ (k : DeskMemo). k.offered) rested.moved.memo_is,
+                now.offered_is,
+                now.positions_are,
+                made_for.positions_are,
+                ap length shows,
+                length-map (desk_memo m.desk).notes plain_item,
+              ));
         }

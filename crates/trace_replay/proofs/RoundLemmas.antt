@@ -1,8 +1,20 @@
 -- One round more.
-use Rattle.trace_replay.proofs.Names.{HasPasses, IsManagerOf, Manager, all_split, ◌≡◌, ℕ, ◌+◌, ◌-◌, ◌≤◌, ◌<◌, ◌^◌, List, [], ◌∷◌, ◌++◌, length, take, drop, sym, ap, subst, ◌∙◌, arith, append_assoc, length-append, All, flat_map, length-map, map-append, take_more, take-append-drop, All-from_recursion, Turn, Parts, KeepUpFrom, Round, lines_of, round_ticks, begun_round, last_from, AreTicks, flat_map-push, keep_split, last_from-push, Buffer, at_length, desk_memo, Shared, or_at, turns_of, Traced, round_at, Continues, StillRecords, turns_in, EndsRound, IsBetween, Plays, calls_of_each, rests_before, ticks_before, AreAtRest, IsAtRest, passes_of, Caller, Recorder, add-one, at_map_back, some, all_append, flat_map-append, get_elem?}
+use Rattle.trace_replay.proofs.Names.{HasPasses, IsManagerOf, Manager, all_split, ◌≡◌, ℕ, ◌+◌, ◌-◌, ◌≤◌, ◌<◌, ◌^◌, List, [], ◌∷◌, ◌++◌, length, take, drop, sym, ap, subst, ◌∙◌, AllByRecursion, arith, append_assoc, length-append, All, flat_map, length-map, map-append, take_more, take-append-drop, All-from_recursion, Turn, Parts, KeepUpFrom, Round, lines_of, round_ticks, begun_round, last_from, AreTicks, flat_map-push, keep_split, last_from-push, Buffer, at_length, desk_memo, Shared, or_at, turns_of, Traced, round_at, Continues, StillRecords, turns_in, EndsRound, IsBetween, Plays, calls_of_each, rests_before, ticks_before, AreAtRest, IsAtRest, refl, DeskMemo, PassMemo, pass_memo, there, map, append-nil, take_all, some-injective, at_map, tick_of, cases_lt, inl, inr, AllZip-long, Answers, HaveAllCalls, losses_in, lines_before, HasPlayed, views_of, passes_of, Caller, Recorder, add-one, at_map_back, some, all_append, flat_map-append, get_elem?}
 use Rattle.trace_replay.proofs.RecordingLemmas.{last_on}
 use Rattle.trace_replay.proofs.RestLemmas.{calls_made, two_told}
 use Rattle.trace_replay.specs.Rounds.{RestsOnce}
+use Rattle.std.proofs.lemmas.List.{drop_all}
+use Rattle.std.proofs.Math.Path.{fun_ext}
+use Rattle.buffer_classes.specs.ByIndex.{AllOf}
+use Rattle.history_spec.specs.{AreMerged}
+use Rattle.trace_replay.proofs.MergeLemmas.{as_many_calls}
+use Rattle.main_function.specs.Standing.{AreAllPasses}
+use Rattle.permit_ring.specs.{ended, resumed}
+use Rattle.trace_replay.proofs.PastLemmas.{newly_past, past_still}
+use Rattle.report_api.specs.Passes.{sizes_of}
+use Rattle.report_api.specs.declared.desk.Desk.{Desk}
+use Rattle.trace_replay.specs.{released_by}
+use Rattle.trace_replay.specs.Names.{Asked}
 
 -- ---- ticks
 
@@ -50,7 +62,38 @@ module _ (shared : Shared) (rounds : List Round) (k : ℕ) (callers : List Calle
     };
   }
 
+-- a list whose slice was written whole
+pub written_whole : {A : Type 0} (old new : List A) (len : ℕ) → length new ≡ length old → len ≡ length old → take len (new ++ drop (length new) old) ≡ new
+written_whole old new len same is =
+    ap (λ rest. take len (new ++ rest)) (drop_all (length new) old (omega (arith, same))) ∙ rw append-nil (take_all len new (omega (arith, same, is)))
+
+-- callers that were held are still at rest, where each pass goes on
+pub still_at_rest : (shared : Shared) (rounds : List Round) (k : ℕ) (old new : List Caller) {desk : DeskMemo} (offered : ℕ)
+    → AreAtRest shared rounds k old → AreAllPasses shared desk (passes_of new) → AllOf (λ i (o n : Caller). n.losses ≡ o.losses) old new
+    → ((caller : ℕ) (pass : PassMemo) → get_elem? (views_of old) caller ≡ some pass → get_elem? (views_of new) caller ≡ some (resumed offered (ended pass)))
+    → AreAtRest shared rounds k new
+still_at_rest shared rounds k old new offered rest all same goes i d low =
+    let now = there new i low in
+    let was = there old i (rw same.as_many at low) in
+    let its = at_rest shared rounds k old rest i was.0 was.1 in
+    let view : pass_memo now.0.pass ≡ resumed offered (ended (pass_memo was.0.pass)) = some-injective _ _
+    (sym (at_map (λ (c : Caller). pass_memo c.pass) new i now.0 now.1) ∙ goes i _ (at_map (λ (c : Caller). pass_memo c.pass) old i was.0 was.1)) in
+    let losses = ap (λ losses. losses.items) (same.each i was.0 now.0 was.1 now.1) in
+    rw (or_at new i d now.0 now.1) record {
+      is_pass = (all.each i now.0.pass (at_map (λ (c : Caller). c.pass) new i now.0 now.1)).0;
+      listed = rw (view, losses) record {
+        played = record { each = its.listed.played.each; calls_are = its.listed.played.calls_are; lost_events_are = its.listed.played.lost_events_are };
+        number_is = its.listed.number_is;
+        losses_are = its.listed.losses_are;
+      };
+    }
+
 -- ---- one round more
+
+-- the pass is that of the caller, and made the calls of these lines
+record IsThere (sizes : List ℕ) (caller : ℕ) (lines : List Asked) (pass : PassMemo) : Type 0 where
+  played : HasPlayed sizes lines pass
+  number_is : pass.number ≡ caller
 
 module _ {C : Type 0} {stands : C → Parts → List Turn → Type 0} {events : C → ℕ} {kept : C → List Buffer} where
   -- what was gathered is so still after a rest
@@ -58,38 +101,72 @@ module _ {C : Type 0} {stands : C → Parts → List Turn → Type 0} {events : 
   still {old = old} once config was =
       rw once.gathered_is (assumption (once.manager_is.stands_then config (turns_in old) was.stands_for, was.transcript, was.causal))
 
-  module _ {shared : Shared} {trace : Traced} {k : ℕ} {r0 r1 r4 : Recorder C} {old new : List Caller}
-      (between : IsBetween events kept shared trace k old r0) (beside : Continues stands events kept shared (round_at trace.rounds k).beside r0 r1)
-      (ends : EndsRound stands events kept shared (round_at trace.rounds k).after new r1 r4) (less : k < length trace.rounds)
-      (played : AreAtRest shared trace.rounds (k + 1) new) (many : length new ≡ trace.callers) where
+  module _ {shared : Shared} {trace : Traced} {k : ℕ} {r r0 r1 r4 : Recorder C} {old mid new : List Caller}
+      (was : Plays stands events kept shared trace k old r r0) (beside : Continues stands events kept shared (round_at trace.rounds k).beside r0 r1)
+      (ends : EndsRound stands events kept shared (round_at trace.rounds k).after mid new r1 r4) (less : k < length trace.rounds)
+      (lines : AllByRecursion (λ round. length round.lines ≡ trace.callers) trace.rounds)
+      (played : AreAtRest shared trace.rounds (k + 1) mid) (rest : AreAtRest shared trace.rounds (k + 1) new) (mids : length mid ≡ trace.callers) where
     -- all stands as it does between rounds, with one round more played
-    pub round_played : Plays stands events kept shared trace (k + 1) new r0 r4
+    pub round_played : Plays stands events kept shared trace (k + 1) new r r4
     round_played =
+        let between = was.between in
         let here = round_at trace.rounds k in
         let first = beside.advances in
         let last = ends.turn.advances in
+        let views = λ (callers : List Caller). length-map callers (λ (c : Caller). pass_memo c.pass) in
+        let many : length new ≡ trace.callers = sym (views new) ∙ ends.turn.all ∙ views mid ∙ mids in
+        let turned_more : turns_in ends.turned ≡ turns_in r1 ++ last.turns = rw (last.turns_are, ends.before.gathered_is) refl in
         let turns_more : turns_in r4 ≡ turns_in r0 ++ (first.turns ++ last.turns) =
-        rw (ends.after.gathered_is, last.turns_are, ends.before.gathered_is, first.turns_are) (append_assoc (turns_in r0) first.turns last.turns) in
+        rw (ends.after.gathered_is, turned_more, first.turns_are) (append_assoc (turns_in r0) first.turns last.turns) in
         let more = ticks_more trace.rounds k less in
         let ticks = simp length-append at (ap length more) in
-        let calls = rw many at (calls_made shared (take (k + 1) trace.rounds) 0 new
-        (λ i j caller is at. let same : j ≡ i = omega (arith, is) in rw same (at_rest shared trace.rounds (k + 1) new played i caller at))) in
+        let ticks_are : map tick_of (turns_in r4) ≡ ticks_before trace.rounds (k + 1) = rw (turns_more, more) (simp map-append (cc (between.ticks_are, first.ticks_are, last.ticks_are))) in
+        let called = λ (callers : List Caller) (its : AreAtRest shared trace.rounds (k + 1) callers) (all : length callers ≡ trace.callers).
+        rw all at (calls_made shared (take (k + 1) trace.rounds) 0 callers
+        (λ i j caller is at. let same : j ≡ i = omega (arith, is) in rw same (at_rest shared trace.rounds (k + 1) callers its i caller at))) in
+        let pass_at : (i : ℕ) (pass : PassMemo) → get_elem? (views_of mid) i ≡ some pass → IsThere (sizes_of shared) i (lines_before trace.rounds (k + 1) i) pass =
+        λ i pass at.
+        let its = at_map_back (λ (c : Caller). pass_memo c.pass) mid i pass at in
+        let listed = (at_rest shared trace.rounds (k + 1) mid played i its.0 its.1).listed in
+        subst (IsThere (sizes_of shared) i (lines_before trace.rounds (k + 1) i)) its.2 (record { played = listed.played; number_is = listed.number_is }) in
+        let released : released_by r4 ≡ released_by r0 ++ views_of new =
+        ap (λ (d : Desk). (desk_memo d).released) ends.after.manager_is.desk_is ∙ ends.turn.remembers
+        ∙ ap (λ released. released ++ views_of new) (ap (λ (d : Desk). (desk_memo d).released) ends.before.manager_is.desk_is ∙ beside.released_is) in
         let rest1 : turns_of r1.manager + 1 ≡ length (ticks_before trace.rounds (k + 1)) = omega (arith, first.count_is, between.count_is, ticks) in
         let rest3 : turns_of ends.turned.manager ≡ turns_of r1.manager + 1 = omega (arith, last.count_is, ends.before.manager_is.turns_are) in
         let rest2 : turns_of r1.manager ≡ length (ticks_before trace.rounds (k + 1)) - 1 = omega (arith, rest1) in
-        let told = two_told (rests_before trace.callers trace.rounds k) (calls_of_each new) _ _ _ _ _ rest2 (rest3 ∙ rest1) calls in
+        let told = two_told (rests_before trace.callers trace.rounds k) (calls_of_each mid) _ _ _ _ _ rest2 (rest3 ∙ rest1) (called mid played mids) in
         record {
           between = record {
             manager_is = ends.after.manager_is.is_manager shared last.manager_is;
-            at_rest = played;
+            at_rest = rest;
             as_many = many;
-            all = cc (many, between.as_many, between.all, ends.after.manager_is.desk_is, ends.turn.back_is, ends.before.manager_is.desk_is, beside.back_is);
-            ticks_are = rw (turns_more, more) (simp map-append (cc (between.ticks_are, first.ticks_are, last.ticks_are)));
+            all = many ∙ sym between.as_many ∙ between.all ∙ sym (cc (ends.after.manager_is.desk_is, ends.turn.as_many, ends.before.manager_is.desk_is, beside.back_is));
+            ticks_are = ticks_are;
             small = rw turns_more (all_append _ (turns_in r0) _ between.small (all_append _ first.turns last.turns first.small last.small));
-            rests_are = rw add-one (cc (ends.after.rests_are, last.rests_are, ends.before.rests_are, first.rests_are, between.rests_are, rw add-one at told));
+            rests_are = rw add-one (cc (ends.after.rests_are, last.rests_are, ends.before.rests_are, first.rests_are, between.rests_are, called new rest many, called mid played mids, rw add-one at told));
             last_is = ends.after.manager_is.last_is ∙ last.last_is ∙ sym (rw more (last_on 0 (ticks_before trace.rounds k) (here.beside ++ here.after ∷ [])
                 ∙ last_from-push _ here.beside here.after []));
             count_is = ends.after.manager_is.turns_are ∙ rest3 ∙ rest1;
           };
-          records = λ config was. still ends.after config (ends.turn.advances.records config (still ends.before config (beside.advances.records config was)));
+          records = λ config is. still ends.after config (ends.turn.advances.records config (still ends.before config (first.records config (was.records config is))));
+          pasts = λ config made_for is j below.
+              let rested = still ends.before config (first.records config (was.records config is)) in
+              elim (cases_lt j k) [
+                | inl earlier ↦ past_still (first.turns ++ last.turns) (views_of new) (was.pasts config made_for is j earlier) turns_more released
+                | inr late ↦
+                    let same : j ≡ k = omega (arith, late, below) in
+                    let turned : turns_in r4 ≡ turns_in ends.turned = ap (λ gathered. gathered.history.turns) ends.after.gathered_is in
+                    let ended : length (ticks_before trace.rounds (k + 1)) ≡ length (turns_in ends.turned) =
+                    ap length (sym ticks_are) ∙ length-map (turns_in r4) tick_of ∙ ap length turned in
+                    let merged = (ends.turn.all_calls config made_for rested).merged in
+                    let lines = fun_ext (as_many_calls (sizes_of shared) (take (k + 1) trace.rounds) (views_of mid) trace.callers
+                    (all_split _ (take (k + 1) trace.rounds) _ (subst (AllByRecursion (λ round. length round.lines ≡ trace.callers)) (sym (take-append-drop (k + 1) trace.rounds)) lines)).0
+                    (views mid ∙ mids) (λ i pass at. (pass_at i pass at).played)) in
+                    rw (same, turned, released) (newly_past (released_by r0) (views_of mid) (views_of new)
+                    (subst (λ calls. AreMerged config.ring calls (turns_in ends.turned) (losses_in config.ring (views_of mid))) lines merged) ended
+                    (views mid ∙ mids)
+                    (λ i pass at. let its = pass_at i pass at in (sym (AllZip-long _ _ pass.log its.played.each), sym its.played.calls_are, its.number_is))
+                    (ends.turn.offered_is config made_for rested) ends.turn.each)
+              ];
         }

@@ -3,6 +3,10 @@ use Rattle.std.specs.Prelude.{◌≡◌, ℕ, ◌+◌, ◌≤◌, List, [], ◌�
 use Rattle.std.specs.List.{AllByRecursion}
 use Rattle.ids_types.specs.Output.{Output}
 use Rattle.trace_replay.specs.Names.{AreCountsOf, AreSumsOf, IsNewManager, IsManagerOf, Stands, StaysSo, last_of, rests_of, turns_of, IsSmallHead, Buffer, IsCausal, Parts, Turn, desk_memo, PassMemo, Pass, HaveAllCalls, IsMadeFor, came, queue_positions, Shared, Manager}
+use mathlib.Core.Option.{some}
+use lib.ListN.{get_elem?}
+use Rattle.ids_types.specs.Turns.{entries_of}
+use Rattle.permit_ring.specs.{ReleasedGoOn, ended, resumed}
 use Rattle.text_spec.specs.TraceFaults.{last_from}
 use Rattle.filter_chain.specs.Transcripts.{Adds, IsEmpty, IsTranscript}
 use Rattle.trace_replay.specs.declared.gathered.Gathered.{Gathered}
@@ -26,6 +30,10 @@ module _ {C : Type 0} where
   -- the turns so far
   abbrev pub turns_in : Recorder C → List Turn
   turns_in r = r.gathered.history.turns
+
+  -- the passes that its desk released so far, as they then were
+  abbrev pub released_by : Recorder C → List PassMemo
+  released_by r = (desk_memo r.manager.desk).released
 
 module _ {C : Type 0} (stands : C → Parts → List Turn → Type 0) where
   -- the manager stands for the turns that were gathered, and these gave what was gathered of them
@@ -68,11 +76,26 @@ module _ {C : Type 0} (stands : C → Parts → List Turn → Type 0) (events : 
   pub record Continues (shared : Shared) (ticks : List ℕ) (old new : Recorder C) : Type 0 where
     pub advances : Advances shared ticks old new
     pub back_is : (desk_memo new.manager.desk).back ≡ (desk_memo old.manager.desk).back
+    pub released_is : released_by new ≡ released_by old
+
+  -- these passes were held, and a turn of this tick took all that was left. Each knows since how much had been offered then
+  pub record TurnsAtRest (shared : Shared) (tick : ℕ) (passes nows : List PassMemo) (old new : Recorder C) : Type 0 where
+    pub advances : Advances shared (tick ∷ []) old new
+    pub as_many : length (desk_memo new.manager.desk).back ≡ length (desk_memo old.manager.desk).back
+    pub all_calls : (config : Parts) → IsMadeFor config shared → IsRecordOf stands config old → HaveAllCalls config passes (turns_in new)
+    pub remembers : released_by new ≡ released_by old ++ nows
+    pub all : length nows ≡ length passes
+    pub offered : ℕ
+    pub each : (caller : ℕ) (pass : PassMemo) → get_elem? passes caller ≡ some pass → get_elem? nows caller ≡ some (resumed offered (ended pass))
+    pub offered_is : (config : Parts) → IsMadeFor config shared → IsRecordOf stands config old
+        → offered ≡ length (entries_of (turns_in new)) + config.ring
 
   -- these passes came back, and a last turn of this tick took all that was left
   pub record Closes (shared : Shared) (tick : ℕ) (passes : List PassMemo) (old new : Recorder C) : Type 0 where
     pub advances : Advances shared (tick ∷ []) old new
     pub back_is : (desk_memo new.manager.desk).back ≡ map came passes
+    pub released_is : released_by new ≡ released_by old
+    pub go_on : ReleasedGoOn (desk_memo new.manager.desk)
     pub counts : AreCountsOf passes new.manager.totals
     pub all_calls : (config : Parts) → IsMadeFor config shared → IsRecordOf stands config old → HaveAllCalls config passes (turns_in new)
     pub sums : (config : Parts) → IsRecordOf stands config old → AreSumsOf (turns_in new) new.manager.totals

@@ -1,7 +1,7 @@
 -- What a replay of a trace gives, for whatever order the steps of its threads had.
-use Rattle.std.specs.Prelude.{◌≡◌, ℕ, List, length, map, reverse}
+use Rattle.std.specs.Prelude.{◌≡◌, ℕ, ◌<◌, List, length, map, reverse}
 use Rattle.trace_replay.specs.Names.{Loss, Buffer, IsCausal, Parts, Turn, desk_memo, PassMemo, HaveAllCalls, losses_in, IsMadeFor, came, Shared, Manager}
-use Rattle.history_spec.specs.{IsMerge, Round}
+use Rattle.history_spec.specs.{IsMerge, Rested, Round}
 use Rattle.text_spec.specs.JournalReading.{Fits}
 use Rattle.filter_chain.specs.History.{count_of, messages_of}
 use Rattle.chain_plain.specs.Telling.{ends_of}
@@ -10,7 +10,7 @@ use Rattle.event_chain.specs.Chained.{Chained}
 use Rattle.event_chain.specs.Standing.{Stands as ChainStands}
 use Rattle.main_function.specs.Standing.{IsManagerOf, Stands, rests_of}
 use Rattle.trace_replay.specs.Played.{HavePlayed}
-use Rattle.trace_replay.specs.Rests.{all_rests, as_told}
+use Rattle.trace_replay.specs.Rests.{all_rests, as_told, rest_after}
 use Rattle.trace_replay.specs.declared.recorder.Recorder.{Recorder}
 use Rattle.trace_replay.specs.declared.replaying.Replayed.{Replayed}
 
@@ -49,6 +49,8 @@ module _ {C : Type 0} (stands : C → Parts → List Turn → Type 0) (events : 
     pub played : HavePlayed config rounds passes
     pub calls : HaveAllCalls config passes gives.turns
     pub losses_are : gives.losses ≡ losses_in config.ring passes
+    -- at the rest after each round's last turn all calls so far are settled, and what is lost later saw all that was given back
+    pub rested : (k : ℕ) → k < length rounds → Rested config.ring gives.turns gives.losses (rest_after rounds k)
 
 -- an event chain over context data buffers stands for these turns
 abbrev pub chain_stands : Chained Buffer → Parts → List Turn → Type 0

@@ -1,13 +1,30 @@
 -- The rests of a replay: when no call was under way, how many turns there were, and how many calls by each caller.
-use Rattle.std.specs.Prelude.{◌≡◌, ℕ, zero, suc, ◌+◌, ◌*◌, ◌-◌, ◌<◌, ◌≤◌, List, [], ◌∷◌, ◌++◌, length, map, take}
+use Rattle.std.specs.Prelude.{◌≡◌, ℕ, zero, suc, ◌+◌, ◌*◌, ◌-◌, ◌<◌, ◌≤◌, List, [], ◌∷◌, ◌++◌, length, map, sum_by, take}
 use mathlib.Core.Option.{some}
 use lib.ListN.{get_elem?}
 use Rattle.std.specs.List.{flat_map}
-use Rattle.trace_replay.specs.Names.{Round, lines_of, round_ticks, RestsTold}
+use Rattle.history_spec.specs.Rests.{Rest, lost_between}
+use Rattle.trace_replay.specs.Names.{Loss, Round, lines_of, round_ticks, RestsTold}
 
 -- the ticks of the turns of the first k rounds
 abbrev pub ticks_before : List Round → ℕ → List ℕ
 ticks_before rounds k = flat_map round_ticks (take k rounds)
+
+-- the rest after the first k rounds, before all where there is none
+abbrev pub rest_by : List Round → ℕ → Rest
+rest_by rounds k = record { turns = length (ticks_before rounds k); calls = λ caller. length (lines_of caller (take k rounds)) }
+
+-- the rest after round k
+abbrev pub rest_after : List Round → ℕ → Rest
+rest_after rounds k = rest_by rounds (k + 1)
+
+-- how many lines a round has
+abbrev pub lines_in : Round → ℕ
+lines_in round = sum_by length round.lines
+
+-- how many calls of round k were lost
+abbrev pub lost_in : List Round → ℕ → List Loss → ℕ
+lost_in rounds k losses = lost_between (rest_by rounds k) (rest_by rounds (k + 1)) losses
 
 -- how many lines caller i and those after it, n in all, have in these rounds
 abbrev pub lines_from : ℕ → ℕ → List Round → List ℕ

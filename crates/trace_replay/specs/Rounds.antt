@@ -1,12 +1,13 @@
 -- What stands between two rounds of a replay.
-use Rattle.std.specs.Prelude.{◌≡◌, ℕ, ◌≤◌, List, [], ◌∷◌, length, map}
+use Rattle.std.specs.Prelude.{◌≡◌, ℕ, ◌≤◌, ◌<◌, List, [], ◌∷◌, length, map}
 use Rattle.std.specs.List.{AllByRecursion}
-use Rattle.trace_replay.specs.Names.{Traced, IsManagerOf, StaysSo, last_of, rests_of, turns_of, with_rest, Buffer, Parts, Turn, queue_positions, Shared}
+use Rattle.trace_replay.specs.Names.{Traced, IsManagerOf, StaysSo, last_of, rests_of, turns_of, with_rest, Buffer, IsMadeFor, Parts, Turn, queue_positions, Shared}
 use Rattle.text_spec.specs.{last_from, AreTicks}
 use Rattle.report_api.specs.Desks.{desk_memo}
-use Rattle.trace_replay.specs.Recording.{Continues, IsSmallTurn, StillRecords, tick_of, turns_in}
-use Rattle.trace_replay.specs.Rests.{as_told, rests_before, ticks_before}
-use Rattle.trace_replay.specs.Standing.{AreAtRest, AreFew, MayAllBeAsked, calls_of_each}
+use Rattle.trace_replay.specs.Past.{IsPast}
+use Rattle.trace_replay.specs.Recording.{IsRecordOf, IsSmallTurn, StillRecords, TurnsAtRest, released_by, tick_of, turns_in}
+use Rattle.trace_replay.specs.Rests.{as_told, rest_after, rests_before, ticks_before}
+use Rattle.trace_replay.specs.Standing.{AreAtRest, AreFew, MayAllBeAsked, calls_of_each, views_of}
 use Rattle.trace_replay.specs.declared.caller.Caller.{Caller}
 use Rattle.trace_replay.specs.declared.recorder.Recorder.{Recorder}
 
@@ -38,6 +39,9 @@ module _ {C : Type 0} (stands : C → Parts → List Turn → Type 0) (events : 
   pub record Plays (shared : Shared) (trace : Traced) (k : ℕ) (callers : List Caller) (old new : Recorder C) : Type 0 where
     pub between : IsBetween events kept shared trace k callers new
     pub records : StillRecords stands old new
+    -- the rest after each of these rounds is past
+    pub pasts : (config : Parts) → IsMadeFor config shared → IsRecordOf stands config old → (j : ℕ) → j < k
+        → IsPast config.ring trace.callers (turns_in new) (released_by new) (rest_after trace.rounds j)
 
   -- the manager rested, when its passes had made so many calls
   pub record RestsOnce (calls : List ℕ) (old new : Recorder C) : Type 0 where
@@ -45,10 +49,10 @@ module _ {C : Type 0} (stands : C → Parts → List Turn → Type 0) (events : 
     pub gathered_is : new.gathered ≡ old.gathered
     pub rests_are : rests_of new.manager ≡ with_rest (turns_of old.manager) calls (rests_of old.manager)
 
-  -- a round's last turn was made between two rests of these callers
-  pub record EndsRound (shared : Shared) (tick : ℕ) (callers : List Caller) (old new : Recorder C) : Type 0 where
+  -- a round's last turn was made at a rest of these callers, which was recorded before and after it
+  pub record EndsRound (shared : Shared) (tick : ℕ) (callers nows : List Caller) (old new : Recorder C) : Type 0 where
     pub rested : Recorder C
     pub turned : Recorder C
     pub before : RestsOnce (calls_of_each callers) old rested
-    pub turn : Continues stands events kept shared (tick ∷ []) rested turned
-    pub after : RestsOnce (calls_of_each callers) turned new
+    pub turn : TurnsAtRest stands events kept shared tick (views_of callers) (views_of nows) rested turned
+    pub after : RestsOnce (calls_of_each nows) turned new

@@ -50,6 +50,10 @@ AreFew callers rounds = (caller : ℕ) → caller < callers → length (lines_of
 abbrev pub passes_of : List Caller → List Pass
 passes_of callers = map (λ (caller : Caller). caller.pass) callers
 
+-- and what these know
+abbrev pub views_of : List Caller → List PassMemo
+views_of callers = map (λ (caller : Caller). pass_memo caller.pass) callers
+
 -- how many calls each of them made
 abbrev pub calls_of_each : List Caller → List ℕ
 calls_of_each callers = calls_by (λ (caller : Caller). caller.pass) callers

@@ -4,8 +4,11 @@ ghost use Rattle.std.specs.List.{All};
 ghost use Rattle.history_spec.specs.Orders.{KeepUpFrom};
 ghost use Rattle.report_api.specs.{desk_memo, pass_memo};
 ghost use Rattle.main_function.specs.Standing.{AreAllPasses, IsManagerOf, last_of, turns_of};
-ghost use Rattle.trace_replay.specs.Recording.{Closes, Continues, StaysSame};
+ghost use Rattle.buffer_classes.specs.ByIndex.{AllOf};
+ghost use Rattle.trace_replay.specs.Recording.{Closes, Continues, StaysSame, TurnsAtRest};
+ghost use Rattle.trace_replay.specs.Standing.{passes_of, views_of};
 
+use crate::caller::Caller;
 use crate::gate::Gate;
 use crate::gathered::Gathered;
 use filter_chain::ParcelChain;
@@ -46,6 +49,29 @@ impl<C: ParcelChain<CtxBuf>> Recorder<C> {
     {
         self.can_turn()?;
         let Ok(out) = self.manager.turn(shared, tick) else {
+            unreachable!()
+        };
+        self.gathered.add(out)?;
+        Ok(())
+    }
+
+    /// Makes a turn at a rest of all callers.
+    pub(crate) fn turn_at_rest(
+        &mut self,
+        shared: &Shared,
+        callers: &mut [Caller],
+        tick: u64,
+    ) -> Result<(), NoMemory>
+        requires mine { IsManagerOf C.events C.kept shared.now self.old.manager }
+        requires later { last_of self.old.manager ≤ tick }
+        requires small { tick ≤ 2 ^ 62 }
+        requires passes { AreAllPasses shared.now (desk_memo self.old.manager.desk) (passes_of callers.old) }
+        ensures turns { OnOk result (TurnsAtRest C.stands C.events C.kept shared.now tick (views_of callers.old) (views_of callers.new) self.old self.new) }
+        ensures passes { OnOk result (AreAllPasses shared.now (desk_memo self.old.manager.desk) (passes_of callers.new)) }
+        ensures losses { OnOk result (AllOf (λ i old new. new.losses ≡ old.losses) callers.old callers.new) }
+    {
+        self.can_turn()?;
+        let Ok(out) = self.manager.turn_at_rest(shared, callers, tick) else {
             unreachable!()
         };
         self.gathered.add(out)?;

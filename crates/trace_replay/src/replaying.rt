@@ -45,8 +45,8 @@ pub struct Replayed {
 /// beside; and then a turn is made that takes what is left. There is a thread for each caller; the main function makes
 /// what no thread has begun.
 /// Steps: as many threads beside its own as callers, at most 32, once. For each round: two hand-overs a caller, and two
-/// rests. For each line one call of a pass and two of the gate. For each tick one `Manager::turn`, after a call of the
-/// gate where it is beside. At the end one `Manager::close`. What each turn took and sent is copied once. Memory: may
+/// rests. For each line one call of a pass and two of the gate. For each tick beside one `Manager::turn`,
+/// after a call of the gate, and for each round one `Manager::turn_at_rest`. At the end one `Manager::close`. What each turn took and sent is copied once. Memory: may
 /// answer want of memory, as it does at 2^62 turns. What is gathered grows with the turns, and room for the rests is
 /// made at the start. A caller's calls take none, but each thread has a stack of the host's. Waits: looks for callers
 /// whose calls a thread has begun, 2^64 times at most; joins the threads at the end; as its gate. By: bound `Threads`

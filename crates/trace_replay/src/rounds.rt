@@ -66,7 +66,7 @@ fn play_rounds<G: Gate, C: ParcelChain<CtxBuf>>(
     let patience = &mut Patience::new();
     for round in 0..stage.trace.rounds() {
         play_calls(stage, round, patience, recorder, callers)?;
-        end_round(stage, round, recorder, callers.as_slice())?;
+        end_round(stage, round, recorder, callers.as_mut_slice())?;
     }
     Ok(())
 }
@@ -102,19 +102,20 @@ fn end_round<G: Gate, C: ParcelChain<CtxBuf>>(
     stage: &Stage<'_, G>,
     round: u64,
     recorder: &mut Recorder<C>,
-    callers: &[Caller],
+    callers: &mut [Caller],
 ) -> Result<(), NoMemory>
     requires round { round < length stage.now.trace.now.rounds }
-    requires rest { AreAtRest stage.now.shared.now stage.now.trace.now.rounds (round + 1) callers.now }
-    requires all { length callers.now ≡ length (desk_memo recorder.old.manager.desk).back }
+    requires rest { AreAtRest stage.now.shared.now stage.now.trace.now.rounds (round + 1) callers.old }
+    requires all { length callers.old ≡ length (desk_memo recorder.old.manager.desk).back }
     requires mine { IsManagerOf C.events C.kept stage.now.shared.now recorder.old.manager }
     requires later { last_of recorder.old.manager ≤ (round_at stage.now.trace.now.rounds round).after }
     requires small { (round_at stage.now.trace.now.rounds round).after ≤ 2 ^ 62 }
-    ensures { OnOk result (EndsRound C.stands C.events C.kept stage.now.shared.now (round_at stage.now.trace.now.rounds round).after
-        callers.now recorder.old recorder.new) }
+    ensures rest { OnOk result (AreAtRest stage.now.shared.now stage.now.trace.now.rounds (round + 1) callers.new) }
+    ensures ends { OnOk result (EndsRound C.stands C.events C.kept stage.now.shared.now (round_at stage.now.trace.now.rounds round).after
+        callers.old callers.new recorder.old recorder.new) }
 {
     recorder.manager.rest(callers)?;
-    recorder.turn(stage.shared, stage.trace.after(round))?;
+    recorder.turn_at_rest(stage.shared, callers, stage.trace.after(round))?;
     recorder.manager.rest(callers)?;
     Ok(())
 }

@@ -1,4 +1,5 @@
-use Rattle.trace_replay.proofs.Names.{length, arith, take_all, last_of_all, last_small}
+use Rattle.trace_replay.proofs.Names.{length, arith, take_all, last_of_all, last_small, pass_memo, Caller}
+use Rattle.std.proofs.lemmas.Simd.{map-map}
 use Rattle.trace_replay.proofs.EndLemmas.{is_replay}
 use Rattle.trace_replay.proofs.RoundLemmas.{has_passes}
 use Rattle.trace_replay.proofs.StartLemmas.{begins, begins_record}
@@ -21,7 +22,7 @@ close-requires g c =
 
 pub returns : goal.returns
 returns g c =
-    let played = c.in_ok-play_beside.ensures in
-    let was = played.records c.args.config.now (begins_record c.requires.new c.reserve_rests.ensures) in
-    rw c.in_ok-passes.ensures.losses (is_replay played.between was (rw c.in_ok-passes.ensures.passes at c.in_ok-close.ensures) c.last_tick.ensures.tick
+    let passes = rw c.in_ok-passes.ensures.passes at c.in_ok-close.ensures in
+    let views = rw (map-map pass_memo (λ (d : Caller). d.pass)) at passes in
+    rw c.in_ok-passes.ensures.losses (is_replay c.in_ok-play_beside.ensures (begins_record c.requires.new c.reserve_rests.ensures) views c.last_tick.ensures.tick
     c.parts-valid.ensures.valid c.requires.callers c.requires.rounds c.requires.set.can c.requires.new.manager_is.made_for)

@@ -1,5 +1,5 @@
-use Rattle.trace_replay.proofs.Names.{arith}
-use Rattle.trace_replay.proofs.RoundLemmas.{next_keeps, round_played}
+use Rattle.trace_replay.proofs.Names.{◌≡◌, ◌∙◌, length, sym, arith, length-map, pass_memo, Caller}
+use Rattle.trace_replay.proofs.RoundLemmas.{next_keeps, round_played, written_whole}
 use Rattle.trace_replay.proofs.rounds.play_rounds.Goals as goal
 
 pub play_calls-requires-clause-later : goal.play_calls-requires-clause-later
@@ -13,7 +13,7 @@ pub end_round-requires-clause-all : goal.end_round-requires-clause-all
 end_round-requires-clause-all g c =
     let played = c.in_ok-play_calls.ensures in
     let between = c.loop-round.invariant.between in
-    rw c.as_slice.ensures.value (cc (played.callers, played.turns.back_is, between.as_many, between.all))
+    rw c.as_mut_slice.ensures.value (cc (played.callers, played.turns.back_is, between.as_many, between.all))
 
 pub end_round-requires-clause-later : goal.end_round-requires-clause-later
 end_round-requires-clause-later g c = rw (c.in_ok-play_calls.ensures.turns.advances.last_is, c.loop-round.invariant.between.last_is)
@@ -22,10 +22,16 @@ end_round-requires-clause-later g c = rw (c.in_ok-play_calls.ensures.turns.advan
 pub end_round-requires-clause-small : goal.end_round-requires-clause-small
 end_round-requires-clause-small g c = (next_keeps c.requires.set.can.ticks c.loop-round.round (omega arith)).small_after
 
+pub loop-round-init : goal.loop-round-init
+loop-round-init g c = record { between = c.requires.between; records = λ config is. is; pasts = λ config made_for is j below. absurd (omega (arith, below)) }
+
 pub loop-round-preserved : goal.loop-round-preserved
 loop-round-preserved g c =
-    let was = c.loop-round.invariant in
     let played = c.in_ok-play_calls.ensures in
-    let ends = rw c.as_slice.ensures.value at c.in_ok-end_round.ensures in
-    let now = round_played was.between played.turns ends (omega arith) played.rest played.callers in
-    record { between = now.between; records = λ config is. now.records config (was.records config is) }
+    let ended = rw c.as_mut_slice.ensures.value at c.in_ok-end_round.ensures in
+    let mids = c.play_calls.new.callers in
+    let news = c.end_round.new.callers in
+    let many : length news ≡ length mids.items =
+    sym (length-map news (λ (d : Caller). pass_memo d.pass)) ∙ ended.ends.turn.all ∙ length-map mids.items (λ (d : Caller). pass_memo d.pass) in
+    rw (written_whole mids.items news mids.len many (omega (arith, mids.ok)))
+    (round_played c.loop-round.invariant played.turns ended.ends (omega arith) c.requires.set.can.each_caller played.rest ended.rest played.callers)

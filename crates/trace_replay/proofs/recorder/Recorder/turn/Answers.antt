@@ -1,3 +1,4 @@
+use Rattle.trace_replay.proofs.Names.{refl}
 use Rattle.trace_replay.proofs.RecordingLemmas.{advances}
 use Rattle.trace_replay.proofs.recorder.Recorder.turn.Goals as goal
 
@@ -5,6 +6,7 @@ pub returns : goal.returns
 returns g c =
     let made = rw c.in-Ok.is at c.turn.follows.holds-at-none in
     record {
-      advances = advances c.requires.mine made.0 (rw made.1 at c.in_ok-add.ensures) made.2;
+      advances = advances c.requires.mine made.0 (rw made.1 at c.in_ok-add.ensures) refl (λ config turns is. is) made.2;
       back_is = made.2.back_is;
+      released_is = made.2.released_is;
     }

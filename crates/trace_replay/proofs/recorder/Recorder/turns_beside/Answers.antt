@@ -16,6 +16,7 @@ loop-tick-init g c = record {
     count_is = omega arith;
   };
   back_is = refl;
+  released_is = refl;
 }
 
 pub turn-requires-clause-later : goal.turn-requires-clause-later
