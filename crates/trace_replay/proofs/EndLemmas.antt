@@ -1,5 +1,5 @@
 -- The end of a replay: from where its callers and its manager stand to what it gives.
-use Rattle.trace_replay.proofs.Names.{CanPlay, cases_lt, inl, inr, ◌≡◌, ℕ, suc, ◌+◌, List, [], ◌∷◌, length, map, refl, sym, ap, ◌∙◌, arith, AllByRecursion, append-nil, at_map, length-map, map-append, take_all, Turn, Parts, IsValid, all_losses, losses_from, last_tick, ticks_of, AreRounds, Buffer, PassMemo, pass_memo, Shared, fates_in, losses_in, Traced, HavePlayed, Closes, IsRecordOf, IsSmallTurn, tick_of, turns_in, IsBetween, all_rests, as_told, losses_by, Plays, views_of, Caller, Recorder, at_map_back, some, all_append, get_elem?}
+use Rattle.trace_replay.proofs.Names.{CanPlay, cases_lt, inl, inr, ◌≡◌, ℕ, suc, ◌+◌, List, [], ◌∷◌, length, map, refl, sym, ap, ◌∙◌, arith, AllByRecursion, append-nil, at_map, length-map, map-append, take_all, Turn, Parts, IsValid, all_losses, losses_from, last_tick, ticks_of, AreRounds, Buffer, PassMemo, pass_memo, Shared, fates_in, losses_in, Traced, HavePlayed, Closes, IsRecordOf, IsSmallTurn, tick_of, turns_in, all_rests, as_told, losses_by, Plays, views_of, Caller, Recorder, at_map_back, some, all_append, get_elem?}
 use Rattle.trace_text.specs.Small.{AreSmall}
 use Rattle.trace_text.proofs.JournalLemmas.{merge_fits}
 use Rattle.law_closing.proofs.SizeLemmas.{first_is_small}

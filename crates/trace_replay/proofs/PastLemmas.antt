@@ -1,12 +1,15 @@
 -- Rests that are past: they stay so while passes go on and turns are made, and a new one comes.
-use Rattle.trace_replay.proofs.Names.{◌≡◌, ℕ, ◌+◌, ◌≤◌, List, [], ◌∷◌, ◌++◌, Lost, Got, Outcome, zero, suc, length, map, take, refl, sym, ap, subst, ◌∙◌, arith, inl, inr, length-append, length-map, map-append, append-nil, take_all, get_or_past, Turn, entries_of, AreMerged, PassMemo, fates_in, losses_in, fate_of, or_at, there, at_length, at_map, at_longer, some, some-injective, get_elem?}
+use Rattle.trace_replay.proofs.Names.{◌≡◌, ℕ, ◌+◌, ◌≤◌, List, [], ◌++◌, Lost, length, map, take, refl, sym, ap, subst, ◌∙◌, arith, inl, inr, length-append, length-map, map-append, take_all, get_or_past, Turn, entries_of, AreMerged, PassMemo, fates_in, losses_in, fate_of, or_at, there, at_length, at_map, at_longer, some, get_elem?}
 use Rattle.std.proofs.lemmas.List.{take-append-le}
+use Rattle.atomic_table.proofs.Lists.{at_last}
 use Rattle.buffer_classes.proofs.AskLemmas.{below_or}
 use Rattle.history_spec.proofs.LossLemmas.{stands_own, loss_is, all_lost}
-use Rattle.history_spec.specs.{Rest, Rested, entries_before, fates_of}
+use Rattle.history_spec.specs.{Rest, Rested, fates_of}
 use Rattle.ids_types.specs.Fates.{Fate, lost}
+use Rattle.permit_ring.proofs.LogLemmas.{lost_in}
 use Rattle.permit_ring.specs.{GoesOn, SeesRests, ended, resumed}
-use Rattle.trace_replay.specs.Past.{IsPast, WasReleased}
+use Rattle.trace_replay.proofs.RestLemmas.{at_behind}
+use Rattle.trace_replay.specs.Past.{IsPast}
 
 -- the fates of a pass among those of all
 of_pass : (passes : List PassMemo) (caller : ℕ) (pass : PassMemo) → get_elem? passes caller ≡ some pass → fates_of (map fates_in passes) caller ≡ fates_in pass
@@ -15,18 +18,7 @@ of_pass passes caller pass at = or_at (map fates_in passes) caller [] (fates_in 
 of_none : (passes : List PassMemo) (caller : ℕ) → length passes ≤ caller → fates_of (map fates_in passes) caller ≡ []
 of_none passes caller past = get_or_past (map fates_in passes) caller [] (rw length-map past)
 
--- the element after all others
-at_end_of : {A : Type 0} (xs : List A) (x : A) → get_elem? (xs ++ x ∷ []) (length xs) ≡ some x
-at_end_of [] x = refl
-at_end_of (y ∷ xs) x = at_end_of xs x
-
 -- a fate that is a loss is that of a call that was lost
-lost_in : (log : List Outcome) (j claimed : ℕ) → get_elem? (map fate_of log) j ≡ some (lost claimed) → get_elem? log j ≡ some (Lost claimed)
-lost_in (Lost claimed ∷ log) zero found at = cc
-lost_in (Got ticket item ∷ log) zero found at = cc
-lost_in (outcome ∷ log) (suc j) found at = lost_in log j found at
-lost_in [] j found at = cc
-
 lost_at : (passes : List PassMemo) (caller j claimed : ℕ) → get_elem? (fates_of (map fates_in passes) caller) j ≡ some (lost claimed)
     → (pass : PassMemo) × (get_elem? passes caller ≡ some pass) × (get_elem? pass.log j ≡ some (Lost claimed))
 lost_at passes caller j claimed at = elim (below_or passes caller) [
@@ -34,12 +26,6 @@ lost_at passes caller j claimed at = elim (below_or passes caller) [
   | inr past ↦
       let none : get_elem? [] j ≡ some (lost claimed) = subst (λ fates. get_elem? fates j ≡ some (lost claimed)) (of_none passes caller past) at in absurd (cc)
 ]
-
--- what stands in a list stands after all of another
-at_after : {A : Type 0} (xs ys : List A) (i k : ℕ) (y : A) → k ≡ length xs + i → get_elem? ys i ≡ some y → get_elem? (xs ++ ys) k ≡ some y
-at_after [] ys i k y is at = let same : k ≡ i = omega (arith, is) in rw same at
-at_after (x ∷ xs) ys i zero y is at = absurd (omega (arith, is))
-at_after (x ∷ xs) ys i (suc k) y is at = at_after xs ys i k y (omega (arith, is)) at
 
 module _ {n callers : ℕ} {turns : List Turn} {released : List PassMemo} {rest : Rest} where
   -- a rest that is past stays so
@@ -87,12 +73,12 @@ newly_past {turns = turns} before passes nows {rest} {offered} merged at_end all
           rw whole record {
             pass = resumed offered (ended its.0);
             place = length before + caller;
-            is_there = at_after before nows caller (length before + caller) _ refl (goes caller its.0 its.1);
+            is_there = at_behind before nows (length before + caller) caller refl ∙ goes caller its.0 its.1;
             number_is = so.2;
             fates_are = of_pass passes caller its.0 its.1;
             made = so.0;
             rest = length its.0.rests;
-            rested = at_end_of its.0.rests _ ∙ ap (λ (calls : ℕ). some (record { calls = calls; offered = offered })) (sym so.1)
+            rested = at_last its.0.rests _ (length its.0.rests) refl ∙ ap (λ (calls : ℕ). some (record { calls = calls; offered = offered })) (sym so.1)
                 ∙ ap (λ (offered : ℕ). some (record { calls = rest.calls caller; offered = offered })) is;
           };
     }

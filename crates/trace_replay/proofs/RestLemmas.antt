@@ -16,7 +16,7 @@ calls_made shared rounds from (caller ∷ callers) each =
 
 -- ---- places
 
-at_behind : {A : Type 0} (xs ys : List A) (i j : ℕ) → i ≡ length xs + j → get_elem? (xs ++ ys) i ≡ get_elem? ys j
+pub at_behind : {A : Type 0} (xs ys : List A) (i j : ℕ) → i ≡ length xs + j → get_elem? (xs ++ ys) i ≡ get_elem? ys j
 at_behind [] ys i j is = let same : i ≡ j = omega (arith, is) in ap (get_elem? ys) same
 at_behind (x ∷ xs) ys zero j is = absurd (omega (arith, is))
 at_behind (x ∷ xs) ys (suc i) j is = at_behind xs ys i j (omega (arith, is))

@@ -1,5 +1,5 @@
 -- One round more.
-use Rattle.trace_replay.proofs.Names.{HasPasses, IsManagerOf, Manager, all_split, ◌≡◌, ℕ, ◌+◌, ◌-◌, ◌≤◌, ◌<◌, ◌^◌, List, [], ◌∷◌, ◌++◌, length, take, drop, sym, ap, subst, ◌∙◌, AllByRecursion, arith, append_assoc, length-append, All, flat_map, length-map, map-append, take_more, take-append-drop, All-from_recursion, Turn, Parts, KeepUpFrom, Round, lines_of, round_ticks, begun_round, last_from, AreTicks, flat_map-push, keep_split, last_from-push, Buffer, at_length, desk_memo, Shared, or_at, turns_of, Traced, round_at, Continues, StillRecords, turns_in, EndsRound, IsBetween, Plays, calls_of_each, rests_before, ticks_before, AreAtRest, IsAtRest, refl, DeskMemo, PassMemo, pass_memo, there, map, append-nil, take_all, some-injective, at_map, tick_of, cases_lt, inl, inr, AllZip-long, Answers, HaveAllCalls, losses_in, lines_before, HasPlayed, views_of, passes_of, Caller, Recorder, add-one, at_map_back, some, all_append, flat_map-append, get_elem?}
+use Rattle.trace_replay.proofs.Names.{HasPasses, IsManagerOf, Manager, all_split, ◌≡◌, ℕ, ◌+◌, ◌-◌, ◌≤◌, ◌<◌, ◌^◌, List, [], ◌∷◌, ◌++◌, length, take, drop, sym, ap, subst, ◌∙◌, AllByRecursion, arith, append_assoc, length-append, All, flat_map, length-map, map-append, take_more, take-append-drop, All-from_recursion, Turn, Parts, KeepUpFrom, Round, lines_of, round_ticks, begun_round, last_from, AreTicks, flat_map-push, keep_split, last_from-push, Buffer, at_length, desk_memo, Shared, or_at, turns_of, Traced, round_at, Continues, StillRecords, turns_in, EndsRound, Plays, calls_of_each, rests_before, ticks_before, AreAtRest, IsAtRest, refl, DeskMemo, PassMemo, pass_memo, there, map, append-nil, take_all, some-injective, at_map, tick_of, cases_lt, inl, inr, AllZip-long, losses_in, lines_before, HasPlayed, views_of, passes_of, Caller, Recorder, add-one, at_map_back, some, all_append, flat_map-append, get_elem?}
 use Rattle.trace_replay.proofs.RecordingLemmas.{last_on}
 use Rattle.trace_replay.proofs.RestLemmas.{calls_made, two_told}
 use Rattle.trace_replay.specs.Rounds.{RestsOnce}

@@ -1,5 +1,5 @@
 -- How many calls a round loses at most.
-use Rattle.trace_replay.proofs.Names.{AllByRecursion, AreRounds, Asked, IsAllowedRound, Parts, All-from_recursion, Round, Turn, add-one, all_split, arith, begun_round, flat_map-push, length, length-append, lines_at, lines_before, lines_of, refl, rest_by, round_at, subst, sum_by, sum_by-cons, sym, take, take_all, take_more, take-append-drop, drop, ticks_before, ◌+◌, ◌++◌, ◌-◌, ◌<◌, ◌∙◌, ◌∷◌, ◌≡◌, ◌≤◌, ap, ℕ, zero, suc, List, []}
+use Rattle.trace_replay.proofs.Names.{AllByRecursion, AreRounds, Asked, IsAllowedRound, Parts, All-from_recursion, Round, add-one, all_split, arith, begun_round, flat_map-push, length, length-append, lines_at, lines_before, lines_of, refl, rest_by, round_at, subst, sum_by, sum_by-cons, sym, take, take_all, take_more, take-append-drop, ticks_before, ◌+◌, ◌++◌, ◌-◌, ◌<◌, ◌∙◌, ◌∷◌, ◌≡◌, ◌≤◌, ap, ℕ, zero, suc, List, []}
 use Rattle.buffer_classes.specs.Buffers.{Buffer}
 use Rattle.event_chain.specs.Chained.{Chained}
 use Rattle.main_function.specs.declared.manager.Manager.{Manager}

@@ -2,7 +2,7 @@
 use Rattle.std.specs.Prelude.{◌≡◌, ℕ, ◌+◌, ◌≤◌, List, [], ◌∷◌, ◌++◌, length, map, reverse}
 use Rattle.std.specs.List.{AllByRecursion}
 use Rattle.ids_types.specs.Output.{Output}
-use Rattle.trace_replay.specs.Names.{AreCountsOf, AreSumsOf, IsNewManager, IsManagerOf, Stands, StaysSo, last_of, rests_of, turns_of, IsSmallHead, Buffer, IsCausal, Parts, Turn, desk_memo, PassMemo, Pass, HaveAllCalls, IsMadeFor, came, queue_positions, Shared, Manager}
+use Rattle.trace_replay.specs.Names.{AreCountsOf, AreSumsOf, IsNewManager, IsManagerOf, Stands, StaysSo, last_of, rests_of, turns_of, IsSmallHead, Buffer, IsCausal, Parts, Turn, desk_memo, PassMemo, Pass, HaveAllCalls, IsMadeFor, came, queue_positions, Shared}
 use mathlib.Core.Option.{some}
 use lib.ListN.{get_elem?}
 use Rattle.ids_types.specs.Turns.{entries_of}

@@ -1,5 +1,5 @@
 -- What stands between two rounds of a replay.
-use Rattle.std.specs.Prelude.{◌≡◌, ℕ, ◌≤◌, ◌<◌, List, [], ◌∷◌, length, map}
+use Rattle.std.specs.Prelude.{◌≡◌, ℕ, ◌≤◌, ◌<◌, List, length, map}
 use Rattle.std.specs.List.{AllByRecursion}
 use Rattle.trace_replay.specs.Names.{Traced, IsManagerOf, StaysSo, last_of, rests_of, turns_of, with_rest, Buffer, IsMadeFor, Parts, Turn, queue_positions, Shared}
 use Rattle.text_spec.specs.{last_from, AreTicks}

@@ -4,6 +4,7 @@ use Rattle.std.specs.List.{AllZip, flat_map}
 use Rattle.trace_replay.specs.Names.{Loss, ReportTerms, calls_by, PassMemo, IsPassOf, lost_events, pass_memo, sizes_of, Pass, queue_positions, Shared}
 use Rattle.history_spec.specs.{losses_from, Asked, Round, lines_at, lines_of}
 use Rattle.law_closing.specs.Calls.{fates_in}
+use Rattle.main_function.specs.{memos_of}
 use Rattle.trace_text.specs.{line_at, round_at}
 use Rattle.trace_replay.specs.Calls.{Answers, MayBeAsked, Told, lost_reports}
 use Rattle.trace_replay.specs.declared.caller.Caller.{Caller}
@@ -52,7 +53,7 @@ passes_of callers = map (λ (caller : Caller). caller.pass) callers
 
 -- and what these know
 abbrev pub views_of : List Caller → List PassMemo
-views_of callers = map (λ (caller : Caller). pass_memo caller.pass) callers
+views_of callers = memos_of (λ (caller : Caller). caller.pass) callers
 
 -- how many calls each of them made
 abbrev pub calls_of_each : List Caller → List ℕ

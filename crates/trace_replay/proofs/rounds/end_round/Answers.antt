@@ -1,4 +1,4 @@
-use Rattle.trace_replay.proofs.Names.{◌+◌, refl, arith, ap, sym, ◌∙◌, length, length-map, desk_memo, pass_memo, passes_of, Caller, Recorder}
+use Rattle.trace_replay.proofs.Names.{◌+◌, refl, arith, sym, ◌∙◌, Recorder}
 use Rattle.trace_replay.proofs.RoundLemmas.{has_passes, still_at_rest}
 use Rattle.trace_replay.proofs.rounds.end_round.Goals as goal
 

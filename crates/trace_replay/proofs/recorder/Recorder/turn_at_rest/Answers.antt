@@ -1,4 +1,4 @@
-use Rattle.trace_replay.proofs.Names.{◌∙◌, sym, length-map, passes_of}
+use Rattle.trace_replay.proofs.Names.{◌∙◌, sym, length-map}
 use Rattle.trace_replay.proofs.RecordingLemmas.{at_rest}
 use Rattle.report_api.specs.{pass_memo}
 use Rattle.trace_replay.specs.Standing.{views_of}
