@@ -69,21 +69,24 @@ module _ {T N : Type 0} where
   abbrev pub join_spent : View T N
   join_spent = Spent
 
-  -- while a seat is held, what has its place knows nothing
+  -- while the keeper holds a seat, a token that knows nothing is in the seat's place. To make it changes nothing that the keeper knows
   abbrev pub rest_left : View T N → View T N
   rest_left v = v
 
+  -- and the token itself knows nothing
   abbrev pub rest_right : View T N → View T N
   rest_right v = Spent
 
-  -- the first seat that is back goes on
+  -- what the first seat that is back knows once it is out again: of its own what it knew, and of the keeper how much has been offered
   abbrev pub seat_again : Key T → KeeperMemo N → Option (SeatMemo N) → View T N
   seat_again key k None = Spent
   seat_again key k (Some memo) = Sits key (resumed k.offered memo)
 
+  -- a release: the keeper no longer has the first seat that is back
   abbrev pub release_left : View T N → View T N
   release_left v = on_keeper (λ k. goes_on k (first_back k.back)) v
 
+  -- and that seat is out again
   abbrev pub release_right : View T N → View T N
   release_right (Keeps key k) = seat_again key k (first_back k.back)
   release_right _ = Spent
