@@ -1,3 +1,4 @@
+pub mod AskOrderLemmas
 pub mod ClassRestLemmas
 pub mod ContextLemmas
 pub mod DecidedLemmas

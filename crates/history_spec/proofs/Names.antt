@@ -4,8 +4,8 @@ pub use Rattle.std.proofs.lemmas.Bool.{cases_eq, cases_Bool, cases_lt, ltb-false
 pub use Rattle.std.proofs.lemmas.List.{append-nil, length-append, length-map, map-append}
 pub use Rattle.ids_config.specs.Parts.{Parts, class_of}
 pub use Rattle.ids_types.specs.{Turn, entries_of, Fate, lost, accepted, claims_got, end_of, start_of, FatesFrom, end_from, AreAllDecided}
-pub use Rattle.history_spec.specs.{too_small, claims_of, IsLegalMiss, claim_of, Misses, class_at, fates_of, AreDecided, tickets_from, tickets_of, IsDecided, losses_from, all_losses, entries_by, calls_of, losses_by, lost_calls_of, entries_before, IsTicket, IsLegalLoss, AreMerged, IsItsLine, IsMerge, StandsIn, times, once_below, RiseFrom, KeepUpFrom, LossesFrom, claims_by, AreSettled, AreLegalContexts, entries_from, IsSettledLog, Rest, start, lost_by, Rested, IsSettledAt, SeesAll, IsLater, calls_between, lost_between, turns_between}
-pub use Rattle.history_spec.specs.Follows.{Calls, Follows, CallAsks, lost_number}
+pub use Rattle.history_spec.specs.{sizes_in, too_small, claims_of, IsLegalMiss, claim_of, Misses, class_at, fates_of, AreDecided, tickets_from, tickets_of, IsDecided, losses_from, all_losses, entries_by, calls_of, losses_by, lost_calls_of, entries_before, IsTicket, IsLegalLoss, AreMerged, IsItsLine, IsMerge, StandsIn, times, once_below, RiseFrom, KeepUpFrom, LossesFrom, claims_by, AreSettled, AreLegalContexts, entries_from, IsSettledLog, Rest, start, lost_by, Rested, IsSettledAt, SeesAll, IsLater, calls_between, lost_between, turns_between}
+pub use Rattle.history_spec.specs.Follows.{Calls, Follows, CallAsks, KeptAsks, lost_number, small_of}
 pub use Rattle.history_spec.specs.Names.{Act, Entry, Loss, Absent, Kept, Missing, Report, State, SetMode}
 pub use Rattle.ids_types.proofs.FatesLemmas.{fate_within, fates_in_order}
 pub use Rattle.std.proofs.lemmas.Grind.{common_steps, flat_map-append}

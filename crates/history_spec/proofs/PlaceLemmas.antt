@@ -1,5 +1,5 @@
 -- What stands in a list.
-use Rattle.history_spec.proofs.Names.{◌≡◌, ℕ, zero, suc, ◌<◌, Bool, true, List, [], ◌∷◌, ◌++◌, filter, inl, inr, ap, arith, cases_eq, StandsIn, times, cond_both, some, some-injective}
+use Rattle.history_spec.proofs.Names.{◌≡◌, ℕ, zero, suc, ◌+◌, ◌<◌, length, refl, Bool, true, List, [], ◌∷◌, ◌++◌, filter, inl, inr, ap, arith, cases_eq, StandsIn, times, cond_both, some, some-injective, get_elem?, take}
 
 module _ {A : Type 0} where
   -- it stands in a longer list
@@ -8,9 +8,21 @@ module _ {A : Type 0} where
   stands_left (y ∷ xs) ys x (zero, at) = (zero, at)
   stands_left (y ∷ xs) ys x (suc place, at) = let rest = stands_left xs ys x (place, at) in (suc rest.0, rest.1)
 
+  pub at_right : (xs ys : List A) (place there : ℕ) (x : A) → there ≡ length xs + place → get_elem? ys place ≡ some x
+      → get_elem? (xs ++ ys) there ≡ some x
+  at_right [] ys place there x is at = let same : there ≡ place = omega arith in rw same at
+  at_right (y ∷ xs) ys place zero x is at = absurd (omega arith)
+  at_right (y ∷ xs) ys place (suc there) x is at = at_right xs ys place there x (omega arith) at
+
   pub stands_right : (xs ys : List A) (x : A) → StandsIn ys x → StandsIn (xs ++ ys) x
-  stands_right [] ys x stands = stands
-  stands_right (y ∷ xs) ys x stands = let rest = stands_right xs ys x stands in (suc rest.0, rest.1)
+  stands_right xs ys x stands = (length xs + stands.0, at_right xs ys stands.0 (length xs + stands.0) x refl stands.1)
+
+  -- and in a first part that is longer than its place
+  pub stands_taken : (n : ℕ) (xs : List A) (x : A) (place : ℕ) → get_elem? xs place ≡ some x → place < n → get_elem? (take n xs) place ≡ some x
+  stands_taken n [] x place at less = cc
+  stands_taken zero (y ∷ xs) x place at less = absurd (omega arith)
+  stands_taken (suc n) (y ∷ xs) x zero at less = at
+  stands_taken (suc n) (y ∷ xs) x (suc place) at less = stands_taken n xs x place at (omega arith)
 
   -- and among what a test keeps
   pub stands_kept : (test : A → Bool) (xs : List A) (x : A) → StandsIn xs x → test x ≡ true → StandsIn (filter test xs) x

@@ -6,7 +6,8 @@ use Rattle.history_spec.specs.Names.{Carried, Absent, Kept, Missing, Act, Report
 use Rattle.ids_types.specs.Fates.{Fate, lost}
 use Rattle.ids_types.specs.Turns.{Turn, entries_of}
 use Rattle.ids_config.specs.Parts.{Parts}
-use Rattle.history_spec.specs.Contexts.{too_small, claims_of}
+use Rattle.history_spec.specs.Contexts.{sizes_in, too_small, claims_of}
+use Rattle.history_spec.specs.Follows.{Calls, Follows}
 use Rattle.history_spec.specs.Orders.{StandsIn}
 use Rattle.history_spec.specs.Rests.{Rest, turns_between}
 
@@ -58,6 +59,11 @@ pub record ClassesRested (turns : List Turn) (log : ℕ → ℕ → List Fate) (
   -- one that was lost later saw claimed all that had been offered by then
   pub sees : (caller i place claimed : ℕ) → at.asks caller i ≤ place → get_elem? (log caller i) place ≡ some (lost claimed)
       → at.offered i ≤ claimed
+
+-- what each caller had asked of each class by the rest is what its calls by then show
+pub record AskedBy (config : Parts) (calls : ℕ → Calls) (log : ℕ → ℕ → List Fate) (at : ClassRest) : Type 0 where
+  pub asked : (caller i : ℕ) → Follows (sizes_in config) i (take (at.rest.calls caller) (calls caller)) (take (at.asks caller i) (log caller i))
+  pub within : (caller i : ℕ) → at.asks caller i ≤ length (log caller i)
 
 -- the entries of the turns between two rests
 abbrev pub entries_between : List Turn → ClassRest → ClassRest → List (Entry (List ℕ))

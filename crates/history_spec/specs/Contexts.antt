@@ -1,5 +1,5 @@
 -- Which claims of context data buffers a history has, and which missing contexts are legal.
-use Rattle.std.specs.Prelude.{◌≡◌, ℕ, ◌+◌, ◌<◌, ◌≤◌, ◌==◌, nat_lt, if◌then◌else◌, Bool, true, false, List, [], ◌∷◌, length, filter, slice_index_or}
+use Rattle.std.specs.Prelude.{◌≡◌, ℕ, ◌+◌, ◌<◌, ◌≤◌, ◌==◌, nat_lt, if◌then◌else◌, Bool, true, false, List, [], ◌∷◌, length, filter, map, slice_index_or}
 use Rattle.std.specs.List.{flat_map}
 use mathlib.Core.Option.{some}
 use lib.ListN.{get_elem?}
@@ -12,6 +12,10 @@ use Rattle.history_spec.specs.Orders.{StandsIn, times, once_below, RiseFrom}
 -- class i, from 0
 abbrev pub class_at : Parts → ℕ → ClassSpec
 class_at config i = slice_index_or config.classes i (class_of (0, 0))
+
+-- the sizes of the classes
+abbrev pub sizes_in : Parts → List ℕ
+sizes_in config = map (λ (class : ClassSpec). class.size) config.classes
 
 -- how many classes are too small for so many bytes: the first ones, since sizes rise
 abbrev pub too_small : Parts → ℕ → ℕ

@@ -10,10 +10,10 @@ pub mod Orders
 pub mod Rests
 pub mod Rounds
 pub mod Settled
-pub use Rattle.history_spec.specs.ClassRests.{context_of, fitting_class, kept_class, needing, missing_in, ClassRest, claimed_at, free_at, ClassesRested, entries_between, AskInOrder, from_class, greatest, too_many}
-pub use Rattle.history_spec.specs.Contexts.{class_at, too_small, claim_in, claim_of, claims_of, misses_context, Misses, IsLegalMiss}
+pub use Rattle.history_spec.specs.ClassRests.{context_of, fitting_class, kept_class, needing, missing_in, ClassRest, claimed_at, free_at, ClassesRested, AskedBy, entries_between, AskInOrder, from_class, greatest, too_many}
+pub use Rattle.history_spec.specs.Contexts.{class_at, sizes_in, too_small, claim_in, claim_of, claims_of, misses_context, Misses, IsLegalMiss}
 pub use Rattle.history_spec.specs.Decided.{tickets_from, tickets_of, IsDecided, fates_of, AreDecided, losses_from, all_losses}
-pub use Rattle.history_spec.specs.Follows.{Calls, lost_number, LostAtMost, KeptAsks, CarriedAsks, CallAsks}
+pub use Rattle.history_spec.specs.Follows.{Calls, lost_number, small_of, KeptAsks, CarriedAsks, CallAsks}
 pub use Rattle.history_spec.specs.Fronts.{and_front, fronts_from, IsFront}
 pub use Rattle.history_spec.specs.Losses.{entries_by, calls_of, losses_by, lost_calls_of, entries_before, IsTicket, IsLegalLoss}
 pub use Rattle.history_spec.specs.Merge.{AreMerged, IsKeptIn, CarriesAsAsked, IsAsAsked, IsItsLine, IsMerge}

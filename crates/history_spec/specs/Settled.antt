@@ -3,7 +3,7 @@ use Rattle.std.specs.Prelude.{◌≡◌, ℕ, suc, ◌+◌, ◌≤◌, ◌==◌,
 use Rattle.history_spec.specs.Names.{Entry}
 use Rattle.ids_types.specs.{Turn, entries_of, Fate, AreAllDecided, claims_got}
 use Rattle.ids_config.specs.Parts.{Parts}
-use Rattle.history_spec.specs.Contexts.{class_at, too_small, Misses, AreClaims, IsLegalMissing}
+use Rattle.history_spec.specs.Contexts.{class_at, sizes_in, too_small, Misses, AreClaims, IsLegalMissing}
 use Rattle.history_spec.specs.Follows.{Calls, Follows}
 use Rattle.history_spec.specs.Losses.{entries_by}
 use Rattle.history_spec.specs.Orders.{StandsIn}
@@ -30,7 +30,7 @@ pub record IsSettledLog (number : ℕ) (claimants : List ℕ) (caller : ℕ) (lo
 -- each caller's logs are what its calls asked of the classes, they are settled, and its entries are its accepted calls
 pub record AreSettled (config : Parts) (turns : List Turn) (calls : ℕ → Calls)
     (log : ℕ → ℕ → List Fate) (claimants : ℕ → List ℕ) : Type 0 where
-  pub follows : (caller i : ℕ) → Follows (length config.classes) i (calls caller) (log caller i)
+  pub follows : (caller i : ℕ) → Follows (sizes_in config) i (calls caller) (log caller i)
   pub settled : (caller i : ℕ) → IsSettledLog (class_at config i).number (claimants i) caller (log caller i)
   pub are_entries : (caller : ℕ) → entries_by caller (entries_of turns) ≡ entries_from caller 0 (calls caller)
 

@@ -7,7 +7,8 @@ ghost use mathlib.Core.Option.{some};
 ghost use lib.ListN.{get_elem?};
 ghost use Rattle.history_spec.specs.Names.{Entry, Loss};
 ghost use Rattle.ids_config.specs.Parts.{Parts};
-ghost use Rattle.history_spec.specs.{AreDecided, fates_of, all_losses, Calls, fronts_from, IsFront, AreMerged, StandsIn, AreSettled, AreLegalContexts, Rest, start, Rested, entries_before, IsSettledAt, SeesAll, IsLater, calls_between, lost_between, turns_between, needing, missing_in, ClassRest, claimed_at, free_at, ClassesRested, entries_between, AskInOrder, from_class, greatest, too_many};
+ghost use Rattle.history_spec.specs.Follows.{Follows};
+ghost use Rattle.history_spec.specs.{claims_of, entries_by, entries_from, sizes_in, AskedBy, AreDecided, fates_of, all_losses, Calls, fronts_from, IsFront, AreMerged, StandsIn, AreSettled, AreLegalContexts, Rest, start, Rested, entries_before, IsSettledAt, SeesAll, IsLater, calls_between, lost_between, turns_between, needing, missing_in, ClassRest, claimed_at, free_at, ClassesRested, entries_between, AskInOrder, from_class, greatest, too_many};
 
 /// Where the logs of the class rings are settled and follow what the calls asked, the claims of the history
 /// stand in it once and in order, and each missing context is legal.
@@ -71,6 +72,39 @@ pub fn a_round_misses_at_most_what_it_has_too_many()
         ClassesRested turns log first → ClassesRested turns log second → AskInOrder config turns log first second →
         ((i : ℕ) → i < length config.classes → claimed_at turns second i ≤ first.offered i) →
         missing_in config (entries_between turns first second) ≡ greatest (length config.classes) (too_many config turns first second) }
+{}
+
+/// The entries claimed as many buffers of each class as there are claimants, if the logs of the classes are settled.
+#[tactic(auto, using(crate::proofs::ContextLemmas::each_claim))]
+pub fn settled_logs_have_each_claim()
+    ensures { (config : Parts) (turns : List Turn) (calls : ℕ → Calls) (log : ℕ → ℕ → List Fate) (claimants : ℕ → List ℕ) →
+        AreSettled config turns calls log claimants → (i : ℕ) → length (claims_of i (entries_of turns)) ≡ length (claimants i) }
+{}
+
+/// A moment is a rest for the classes, if the logs by then were settled, are the first part of what each caller asked, and
+/// each ask that was lost later saw claimed all that had been offered by then.
+pub fn what_had_been_asked_by_a_rest()
+    ensures { (config : Parts) (turns : List Turn) (calls early_calls : ℕ → Calls) (log early : ℕ → ℕ → List Fate)
+        (claimants : ℕ → List ℕ) (at : ClassRest) →
+        AreSettled config (take at.rest.turns turns) early_calls early claimants →
+        ((caller : ℕ) → early_calls caller ≡ take (at.rest.calls caller) (calls caller)) →
+        ((caller i : ℕ) → early caller i ≡ take (at.asks caller i) (log caller i)) →
+        ((caller i : ℕ) → at.asks caller i ≤ length (log caller i)) →
+        ((caller i place claimed : ℕ) → get_elem? (log caller i) place ≡ some (lost claimed) → at.asks caller i ≤ place →
+        at.offered i ≤ claimed) →
+        ClassesRested turns log at × AskedBy config calls log at }
+{}
+
+/// Each entry between two rests asked the classes that fit its context in order, if each caller's log is what its calls
+/// asked, and each entry is that of a call between the rests.
+pub fn contexts_ask_in_order()
+    ensures { (config : Parts) (turns : List Turn) (calls : ℕ → Calls) (log : ℕ → ℕ → List Fate) (first second : ClassRest) →
+        ((caller : ℕ) → entries_by caller (entries_of turns) ≡ entries_from caller 0 (calls caller)) →
+        ((caller i : ℕ) → Follows (sizes_in config) i (calls caller) (log caller i)) →
+        AskedBy config calls log first → AskedBy config calls log second → first.rest.turns ≤ second.rest.turns →
+        ((e : Entry (List ℕ)) → StandsIn (entries_between turns first second) e →
+        (first.rest.calls e.caller ≤ e.call) × (e.call < second.rest.calls e.caller)) →
+        AskInOrder config turns log first second }
 {}
 
 /// A moment is a rest, if the turns so far are one merge of the fates that the calls had by then, and each call that was

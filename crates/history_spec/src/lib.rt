@@ -8,6 +8,7 @@ mod laws;
 
 pub use laws::{
     a_round_loses_at_most_what_it_has_too_many, a_round_misses_at_most_what_it_has_too_many,
-    decided_calls_are_merged, entries_stand_in_turns_of_their_own_round,
-    settled_logs_give_legal_contexts, what_a_front_is, what_had_become_by_a_rest,
+    contexts_ask_in_order, decided_calls_are_merged, entries_stand_in_turns_of_their_own_round,
+    settled_logs_give_legal_contexts, settled_logs_have_each_claim, what_a_front_is,
+    what_had_become_by_a_rest, what_had_been_asked_by_a_rest,
 };

@@ -1,8 +1,10 @@
 -- What a closed desk makes of a history.
-use Rattle.law_closing.proofs.Names.{Item, some, asks_back, desk_memo, Act, Got, Outcome, PassMemo, call_of, calls_in, fate_of, sizes_of, decided_on, AreAllBack, class_at, AreDecided, entries_by, IsSettledLog, entries_from, get_elem?, at_map, get_or_past, length-map, ◌≡◌, ℕ, true≢false, Option, None, List, [], length, map, refl, sym, ap, ◌∙◌, arith, inl, inr, ClassSpec, Classes, some_there, at_length, there, Parts}
+use Rattle.law_closing.proofs.Names.{Item, some, asks_back, desk_memo, Act, Got, Outcome, PassMemo, call_of, calls_in, fate_of, decided_on, AreAllBack, class_at, AreDecided, entries_by, IsSettledLog, entries_from, get_elem?, at_map, get_or_past, length-map, ◌≡◌, ℕ, true≢false, Option, None, List, [], length, map, refl, sym, ap, ◌∙◌, arith, inl, inr, Classes, some_there, at_length, there, Parts}
 use mathlib.Core.Option.{some-injective}
 use Rattle.std.proofs.lemmas.Bool.{cases_lt}
 use Rattle.ids_types.specs.{entries_of}
+use Rattle.history_spec.specs.{AreSettled}
+use Rattle.history_spec.specs.Contexts.{sizes_in}
 use Rattle.history_spec.specs.Decided.{fates_of}
 use Rattle.history_spec.specs.Follows.{Follows}
 use Rattle.history_spec.proofs.ContextLemmas.{legal_contexts}
@@ -49,13 +51,11 @@ module _ (closed : ClosedDesk) where
     stands : (j : ℕ) (r : Outcome) → get_elem? memo.log j ≡ some r
         → (pass : PassMemo) × (get_elem? closed.passes caller ≡ some pass) × (get_elem? pass.log j ≡ some r)
     whole : IsWholeCaller (desk_memo closed.desk).fronts items caller memo
-    follows : (i : ℕ) → Follows (length closed.config.classes) i (calls_in memo.log) (asks_back givers caller i)
+    follows : (i : ℕ) → Follows (sizes_in closed.config) i (calls_in memo.log) (asks_back givers caller i)
 
   knows : (caller : ℕ) → Knows caller
   knows caller =
       let as_long : length back ≡ length closed.passes = ap length closed.are_back ∙ length-map closed.passes came in
-      let as_many : length (sizes_of closed.shared) ≡ length closed.config.classes =
-      ap length closed.made_for.sizes ∙ length-map closed.config.classes (λ (class : ClassSpec). class.size) in
       elim (below_or closed.passes caller) [
         | inl pass ↦
             let is_back : get_elem? back caller ≡ some (came pass.0) = rw closed.are_back (at_map came closed.passes caller pass.0 pass.1) in
@@ -65,7 +65,7 @@ module _ (closed : ClosedDesk) where
               fates = or_at _ caller [] _ (at_map fates_in closed.passes caller pass.0 pass.1);
               stands = λ j r at. (pass.0, pass.1, at);
               whole = closed.all_taken.whole caller (ended pass.0) is_back;
-              follows = λ i. rw (← as_many) (closed.is_desk.tied.follows i caller (ended pass.0) is_back);
+              follows = λ i. rw (← closed.made_for.sizes) (closed.is_desk.tied.follows i caller (ended pass.0) is_back);
             }
         | inr past ↦ record {
           memo = new_memo caller;
@@ -112,6 +112,17 @@ module _ (closed : ClosedDesk) where
     | inr past ↦ ([], λ caller. rw (nothing_past givers i past) (none_settled refl))
   ]
 
+  -- the classes are settled
+  pub settled_classes : (claimants : ℕ → List ℕ) × AreSettled closed.config closed.turns (calls_by closed.passes) (asks_back givers) claimants
+  settled_classes = (
+    λ i. (settled_at i).0,
+    record {
+      follows = λ caller i. let its = knows caller in rw its.calls (its.follows i);
+      settled = λ caller i. (settled_at i).1 caller;
+      are_entries = entries_are;
+    },
+  )
+
   -- the calls of a caller are decided
   are_decided : AreDecided closed.config.ring (λ caller. length (calls_by closed.passes caller)) closed.turns (map fates_in closed.passes)
   are_decided caller =
@@ -155,9 +166,5 @@ module _ (closed : ClosedDesk) where
     merged = are_merged closed.config.ring closed.turns _ (map fates_in closed.passes) are_decided;
     one_order = one_order;
     sees = λ caller pass at. (closed.all_taken.whole caller (ended pass) (rw closed.are_back (at_map came closed.passes caller pass at))).sees;
-    contexts = legal_contexts closed.config closed.turns (calls_by closed.passes) (asks_back givers) (λ i. (settled_at i).0) record {
-      follows = λ caller i. let its = knows caller in rw its.calls (its.follows i);
-      settled = λ caller i. (settled_at i).1 caller;
-      are_entries = entries_are;
-    };
+    contexts = legal_contexts closed.config closed.turns (calls_by closed.passes) (asks_back givers) settled_classes.0 settled_classes.1;
   }

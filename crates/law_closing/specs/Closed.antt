@@ -3,10 +3,9 @@ use Rattle.std.specs.Prelude.{◌≡◌, ℕ, Option, Some, List, [], ◌∷◌,
 use mathlib.Core.Option.{some}
 use lib.ListN.{get_elem?}
 use Rattle.ids_types.specs.Turns.{Turn, entries_of}
-use Rattle.ids_types.specs.declared.class_spec.ClassSpec.{ClassSpec}
 use Rattle.ids_types.specs.declared.entry.Entry.{Entry}
 use Rattle.ids_config.specs.Parts.{Parts}
-use Rattle.history_spec.specs.{class_at, fronts_from}
+use Rattle.history_spec.specs.{class_at, fronts_from, sizes_in}
 use Rattle.permit_ring.specs.{ring_positions, ring_seats, ended}
 use Rattle.buffer_classes.specs.{class_sizes, giver_memo}
 use Rattle.buffer_classes.specs.declared.class.Class.{Class}
@@ -24,7 +23,7 @@ plain_item item = record { caller = item.caller; call = item.call; act = plain_a
 
 -- The classes have the sizes of the configuration.
 abbrev pub HaveSizes : Parts → Classes → Type 0
-HaveSizes config classes = class_sizes classes ≡ map (λ (class : ClassSpec). class.size) config.classes
+HaveSizes config classes = class_sizes classes ≡ sizes_in config
 
 -- The ring of each class has as many positions as the configuration has buffers of it, and a seat for each caller.
 abbrev pub HaveNumbers : Parts → Classes → Type 0

@@ -7,8 +7,10 @@ ghost use Rattle.buffer_classes.specs.{AreClasses, class_sizes, first_fitting, A
 ghost use Rattle.buffer_classes.specs.declared.class.Classes.{Classes};
 ghost use Rattle.buffer_classes.specs.declared.givers.Givers.{Givers};
 ghost use Rattle.report_queue.specs.{IsAllTaken};
+ghost use Rattle.history_spec.specs.{AreSettled};
+ghost use Rattle.report_api.specs.{asks_back};
 ghost use Rattle.report_api.specs.Names.{DeskMemo, PassMemo};
-ghost use Rattle.law_closing.specs.{HaveAllCalls, accepted_in, came, ClosedDesk, GiversHaveNumbers, HaveNumbers, HaveSizes};
+ghost use Rattle.law_closing.specs.{HaveAllCalls, accepted_in, calls_by, came, ClosedDesk, GiversHaveNumbers, HaveNumbers, HaveSizes};
 
 /// Once all passes are back and the report ring and the ring of each class is settled, the turns have all calls of
 /// the passes, and nothing else. The entries of each caller are its accepted calls, in order and with what they
@@ -18,6 +20,14 @@ ghost use Rattle.law_closing.specs.{HaveAllCalls, accepted_in, came, ClosedDesk,
 pub fn closed_desks_have_all_calls()
     ghost closed: { ClosedDesk }
     ensures { HaveAllCalls closed.config closed.passes closed.turns }
+{}
+
+/// What each caller asked of each class is then what its calls show, and each claim of it is settled.
+#[tactic(auto, using(crate::proofs::ClosedLemmas::settled_classes))]
+pub fn closed_desks_settle_the_classes()
+    ghost closed: { ClosedDesk }
+    ensures { (claimants : ℕ → List ℕ) × AreSettled closed.config closed.turns (calls_by closed.passes)
+        (asks_back (givers_of closed.desk.givers)) claimants }
 {}
 
 /// What was taken is as many items as calls of the passes were accepted.

@@ -7,6 +7,6 @@
 mod laws;
 
 pub use laws::{
-    as_many_items_as_accepted_calls, closed_desks_have_all_calls, rings_have_their_givers_numbers,
-    the_first_fitting_class_counts_the_small_ones,
+    as_many_items_as_accepted_calls, closed_desks_have_all_calls, closed_desks_settle_the_classes,
+    rings_have_their_givers_numbers, the_first_fitting_class_counts_the_small_ones,
 };

@@ -41,7 +41,7 @@ new_making config shared desk callers claimants spares desk_spare many of queue 
     let long : (i : ℕ) (giver : Giver) → get_elem? givers i ≡ some giver → length (giver_memo giver).back ≡ config.callers = λ i giver at.
     let spec = there config.classes i (omega (arith, at_length givers i giver at, as_many classes, classes.givers_are.all)) in
     grind (arith, classes.each_giver i spec.0 giver spec.1 at, length-replicate) in
-    let tied : AreTied (length (sizes_of shared)) (desk_memo desk).back givers = rw queue.untouched.back_is (grind (arith, long, length-replicate, none)) in
+    let tied : AreTied (sizes_of shared) (desk_memo desk).back givers = rw queue.untouched.back_is (grind (arith, long, length-replicate, none)) in
     let all_made : length (as_passes callers claimants spares) ≡ config.callers = simp (length-map, length-zip)
     (omega (arith, queue.all_made, classes.all_made, many)) in
     let each : (i : ℕ) (pass : Pass) → get_elem? (as_passes callers claimants spares) i ≡ some pass → IsNewPass shared i pass = λ i pass at.

@@ -18,8 +18,8 @@ missing_within (Lost claimed ∷ log) = omega (arith, missing_within log)
 missing_within (Got ticket item ∷ log) = grind (arith, missing_within log)
 
 -- a control asks no class, and misses no context
-pub control_asks : (classes i : ℕ) (act : Act) → IsControl act → CallAsks classes i (Some (plain_act act)) [] × (misses_context act ≡ 0)
-control_asks classes i act is = grind arith
+pub control_asks : (sizes : List ℕ) (i : ℕ) (act : Act) → IsControl act → CallAsks sizes i (Some (plain_act act)) [] × (misses_context act ≡ 0)
+control_asks sizes i act is = grind arith
 
 -- one call more that is decided: its outcome stands in the log, and a missing context was marked
 pub record AddsCall (old : PassMemo) (outcome : Outcome) (new : PassMemo) : Type 0 where
@@ -44,17 +44,17 @@ module _ {shared : Shared} {old : Pass} (at : IsPassAt shared old) (new : Pass) 
   pub pass_after : (claimant : IsClaimSeatOf shared.classes new.claimant) (number : claimant_of new.claimant ≡ claimant_of old.claimant)
       (claims : claims_of new.claimant ≤ claims_of old.claimant + 1) (asked : ℕ → List classes.Outcome)
       (logs : (i : ℕ) → log_of new.claimant i ≡ log_of old.claimant i ++ asked i)
-      (asks : (i : ℕ) → CallAsks (length (sizes_of shared)) i (call_of outcome) (map fate_of (asked i))) → IsPassOf shared new
+      (asks : (i : ℕ) → CallAsks (sizes_of shared) i (call_of outcome) (map fate_of (asked i))) → IsPassOf shared new
   pass_after claimant number claims asked logs asks =
       let old_log = (pass_memo old).log in
-      let follows : (i : ℕ) → Follows (length (sizes_of shared)) i (calls_in (pass_memo new).log) (asks_of new i) = λ i.
+      let follows : (i : ℕ) → Follows (sizes_of shared) i (calls_in (pass_memo new).log) (asks_of new i) = λ i.
       rw (adds.log_is, map_push call_of old_log outcome, logs i, map-append fate_of (log_of old.claimant i) (asked i))
-      (follows_after (length (sizes_of shared)) i (calls_in old_log) (asks_of old i) (call_of outcome) (map fate_of (asked i)) (at.asks i) (asks i)) in
+      (follows_after (sizes_of shared) i (calls_in old_log) (asks_of old i) (call_of outcome) (map fate_of (asked i)) (at.asks i) (asks i)) in
       let more = length_push old_log outcome in
       let missing = missing-push old_log outcome in
       grind (arith, at, caller, claimant, held, spare, number, claims, follows, adds, more, missing)
 
   -- the same where it asks for no buffer
-  pub plain_after : new.claimant ≡ old.claimant → ((i : ℕ) → CallAsks (length (sizes_of shared)) i (call_of outcome) []) → IsPassOf shared new
+  pub plain_after : new.claimant ≡ old.claimant → ((i : ℕ) → CallAsks (sizes_of shared) i (call_of outcome) []) → IsPassOf shared new
   plain_after same asks = pass_after (rw same (at.claimant)) (ap claimant_of same) (rw same (omega arith)) (λ i. [])
       (λ i. rw (same, append-nil (log_of old.claimant i)) refl) asks

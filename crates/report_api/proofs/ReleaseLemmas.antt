@@ -1,5 +1,5 @@
 -- A pass that was held goes on with its claimant.
-use Rattle.report_api.proofs.Names.{◌≡◌, ℕ, ◌≢◌, ◌≤◌, ◌∙◌, Option, None, Some, List, [], length, slice_set, ap, map, refl, sym, inl, inr, arith, length-set, length-map, at_set, set_here, set_else, at_length, there, seat_memo, ended, Giver, AllOf, giver_memo, givers_of, log_of, below_or, nothing_past, AreTied, log_at, desk_memo, PassMemo, IsPassOf, pass_memo, sizes_of, Pass, Shared, get_elem?, some}
+use Rattle.report_api.proofs.Names.{◌≡◌, ℕ, ◌≢◌, ◌∙◌, None, Some, slice_set, ap, refl, inl, inr, arith, length-set, length-map, at_set, set_else, at_length, there, seat_memo, Giver, AllOf, giver_memo, givers_of, log_of, below_or, nothing_past, AreTied, log_at, desk_memo, PassMemo, IsPassOf, pass_memo, sizes_of, Pass, Shared, get_elem?, some}
 use Rattle.buffer_classes.specs.Names as classes
 use Rattle.buffer_classes.specs.declared.class.Class.{Class}
 use Rattle.history_spec.specs.Follows.{Follows}
@@ -51,7 +51,7 @@ module _ (shared : Shared) (desk after : Desk) (pass now : Pass) (mine : IsDeskO
   ]
 
   -- the desk and its givers let go of the same place
-  pub tied_released : AreTied (length (sizes_of shared)) (desk_memo after).back (givers_of after.givers)
+  pub tied_released : AreTied (sizes_of shared) (desk_memo after).back (givers_of after.givers)
   tied_released = record {
     as_many = λ i giver at.
         let was = went i giver at in grind (arith, was, desk_is, mine.tied.as_many i was.0 was.2, length-set);
@@ -77,6 +77,6 @@ module _ (shared : Shared) (desk after : Desk) (pass now : Pass) (mine : IsDeskO
   pub pass_again : (now.claimant.number ≡ pass.claimant.number) × (now.claimant.claims ≡ pass.claimant.claims) → now.spare ≡ pass.spare
       → IsPassOf shared now
   pass_again stays spare =
-      let asks : (i : ℕ) → Follows (length (sizes_of shared)) i (calls_in (pass_memo now).log) (asks_of now i) =
+      let asks : (i : ℕ) → Follows (sizes_of shared) i (calls_in (pass_memo now).log) (asks_of now i) =
       λ i. rw (log_is i, seat_is) (next.held.asks i) in
       grind (arith, next.held, told.caller, seat, seat_is, stays, spare, asks)

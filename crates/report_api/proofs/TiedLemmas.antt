@@ -2,7 +2,7 @@
 use Rattle.report_api.proofs.Names.{◌≡◌, ℕ, true, is_some, true≢false, Option, None, List, refl, sym, arith, inl, inr, at_length, there, Giver, Buffer, AllOf, GaveBack, giver_memo, below_or, nothing_past, AreTied, log_at, PassMemo, get_elem?, some, some_there}
 use Rattle.permit_ring.specs.Closing.{AreAllBack}
 
-module _ {number : ℕ} {back : List (Option PassMemo)} {olds news : List Giver} {bufs : List Buffer} (tied : AreTied number back olds)
+module _ {sizes : List ℕ} {back : List (Option PassMemo)} {olds news : List Giver} {bufs : List Buffer} (tied : AreTied sizes back olds)
     (gave : AllOf (GaveBack bufs) olds news) where
   -- the giver that stands at a place now stood there before, and gave back
   pub stood : (i : ℕ) (new : Giver) → get_elem? news i ≡ some new → (old : Giver) × (get_elem? olds i ≡ some old) × GaveBack bufs i old new
@@ -16,7 +16,7 @@ module _ {number : ℕ} {back : List (Option PassMemo)} {olds news : List Giver}
   ]
 
   -- giving back leaves them tied
-  pub tied_given : AreTied number back news
+  pub tied_given : AreTied sizes back news
   tied_given = record {
     as_many = λ i giver at. let was = stood i giver at in grind (arith, was, tied.as_many i was.0 was.1);
     both = λ i caller giver pass at came. let was = stood i giver at in grind (arith, was, tied.both i caller was.0 pass was.1 came);
@@ -24,7 +24,7 @@ module _ {number : ℕ} {back : List (Option PassMemo)} {olds news : List Giver}
     missing = tied.missing;
   }
 
-module _ {number : ℕ} {back : List (Option PassMemo)} {givers : List Giver} (tied : AreTied number back givers)
+module _ {sizes : List ℕ} {back : List (Option PassMemo)} {givers : List Giver} (tied : AreTied sizes back givers)
     (all : (i : ℕ) (came : Option PassMemo) → get_elem? back i ≡ some came → is_some came ≡ true) where
   -- once all passes are back, so are all claimants of each class
   pub claimants_back : (i : ℕ) (giver : Giver) → get_elem? givers i ≡ some giver → AreAllBack (giver_memo giver)

@@ -8,7 +8,7 @@ use Rattle.report_api.specs.{IsHeldPass}
 
 module _ {shared : Shared} {pass : Pass} {back : List (Option PassMemo)} {olds news : List Giver} (its : IsPassOf shared pass)
     (as_many : length olds ≡ length shared.classes.classes.items)
-    (tied : AreTied (length (sizes_of shared)) back olds) (welcomed : AllOf (Welcomed pass.claimant) olds news) where
+    (tied : AreTied (sizes_of shared) back olds) (welcomed : AllOf (Welcomed pass.claimant) olds news) where
   abbrev caller : ℕ
   caller = (pass_memo pass).number
 
@@ -49,7 +49,7 @@ module _ {shared : Shared} {pass : Pass} {back : List (Option PassMemo)} {olds n
   ]
 
   -- the pass and its claimant take the same place
-  pub tied_welcome : AreTied (length (sizes_of shared)) new_back news
+  pub tied_welcome : AreTied (sizes_of shared) new_back news
   tied_welcome = record {
     as_many = λ i giver at.
         let was = came i giver at in grind (arith, was, tied.as_many i was.0 was.2, length-set);

@@ -40,12 +40,12 @@ abbrev pub asks_back : List Giver → ℕ → ℕ → List Fate
 asks_back givers caller i = map fate_of (log_at (get_elem? givers i) caller)
 
 -- the passes that came back, with their claimants at each class, whose asks are what the calls show
-pub record AreTied (number : ℕ) (back : List (Option PassMemo)) (givers : List Giver) : Type 0 where
+pub record AreTied (sizes : List ℕ) (back : List (Option PassMemo)) (givers : List Giver) : Type 0 where
   pub as_many : (i : ℕ) (giver : Giver) → get_elem? givers i ≡ some giver → length (giver_memo giver).back ≡ length back
   pub both : (i caller : ℕ) (giver : Giver) (pass : PassMemo) → get_elem? givers i ≡ some giver → get_elem? back caller ≡ some (Some pass)
       → (memo : classes.SeatMemo) × (get_elem? (giver_memo giver).back caller ≡ some (Some memo))
   pub follows : (i caller : ℕ) (pass : PassMemo) → get_elem? back caller ≡ some (Some pass)
-      → Follows number i (calls_in pass.log) (asks_back givers caller i)
+      → Follows sizes i (calls_in pass.log) (asks_back givers caller i)
   pub missing : (caller : ℕ) (pass : PassMemo) → get_elem? back caller ≡ some (Some pass) → lost_contexts pass ≡ missing_in pass.log
 
 -- the desk is the one of this making, between two calls
@@ -54,7 +54,7 @@ pub record IsDeskOf (shared : Shared) (desk : Desk) : Type 0 where
   pub taker : IsTakerOf shared.queue desk.taker
   pub givers : AreGiversOf shared.classes desk.givers
   pub has_spare : is_some desk.spare ≡ true
-  pub tied : AreTied (length (sizes_of shared)) (desk_memo desk).back (givers_of desk.givers)
+  pub tied : AreTied (sizes_of shared) (desk_memo desk).back (givers_of desk.givers)
 
 -- the ring of each class is settled
 abbrev pub EachSettled : Desk → Type 0

@@ -73,7 +73,7 @@ pub record IsPassAt (shared : Shared) (pass : Pass) : Type 0 where
   pub has_spare : is_some pass.spare ≡ true
   pub number_is : claimant_of pass.claimant ≡ caller_number pass.seat
   -- call by call, what was asked of each class is what the calls show
-  pub asks : (i : ℕ) → Follows (length (sizes_of shared)) i (calls_in (pass_memo pass).log) (asks_of pass i)
+  pub asks : (i : ℕ) → Follows (sizes_of shared) i (calls_in (pass_memo pass).log) (asks_of pass i)
   pub claims_within : claims_of pass.claimant ≤ length (pass_memo pass).log
   pub events_within : lost_events (pass_memo pass) ≤ length (pass_memo pass).log
   -- each context that is missing was marked
@@ -91,7 +91,7 @@ pub record IsHeldPass (shared : Shared) (memo : PassMemo) (memos : ℕ → Class
   pub claimant : IsHeldClaimant shared.classes memos pass.claimant
   pub has_spare : is_some pass.spare ≡ true
   pub number_is : claimant_of pass.claimant ≡ memo.number
-  pub asks : (i : ℕ) → Follows (length (sizes_of shared)) i (calls_in memo.log) (map fate_of (memos i).log)
+  pub asks : (i : ℕ) → Follows (sizes_of shared) i (calls_in memo.log) (map fate_of (memos i).log)
   pub none_past : (i : ℕ) → length (sizes_of shared) ≤ i → (memos i).log ≡ []
   pub claims_within : claims_of pass.claimant ≤ length memo.log
   pub events_within : lost_events memo ≤ length memo.log

@@ -1,4 +1,4 @@
-use Rattle.report_api.proofs.Names.{◌≡◌, ℕ, length, sizes_of, rules, refl, arith, queue_seats, caller_memo, item_by, Got, Lost}
+use Rattle.report_api.proofs.Names.{◌≡◌, ℕ, sizes_of, rules, refl, arith, queue_seats, caller_memo, item_by, Got, Lost}
 use Rattle.report_api.proofs.{control_asks, lost_call, plain_after, put_call}
 use Rattle.report_api.proofs.pass.Pass.control.Goals as goal
 
@@ -9,7 +9,7 @@ returns-in-Ok c =
     let mid = caller_memo c.claim.new.self in
     let same : c.in-Ok.field-0 ≡ c.put.result = cc (c.in-Ok.ensures.held, c.put.ensures.ticket) in
     let claims = rw same at c.in-Ok.ensures.told in
-    let its = λ (i : ℕ). control_asks (length (sizes_of c.args.shared.now)) i c.args.act c.requires.control in
+    let its = λ (i : ℕ). control_asks (sizes_of c.args.shared.now) i c.args.act c.requires.control in
     let call = put_call limit old mid c.put.result claims c.args.act (caller_memo c.put.new.seat) c.put.ensures.told in
     record {
       mine = plain_after c.requires.mine.at _ c.put.ensures.mine c.put.ensures.held c.put.ensures.spare (Got c.put.result.0 (item_by mid c.args.act))

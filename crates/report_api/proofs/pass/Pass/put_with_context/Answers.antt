@@ -1,7 +1,7 @@
-use Rattle.report_api.proofs.Names.{ℕ, eq-eqb, ne_eqb, lost_past, length, refl, ap, arith, common_steps, sizes_of, pass_memo}
+use Rattle.report_api.proofs.Names.{ℕ, length, refl, ap, arith, common_steps, sizes_of, pass_memo}
 use Rattle.buffer_classes.specs.Classes.{first_fitting}
 use Rattle.report_api.specs.Names.{Kept}
-use Rattle.report_api.proofs.{missing_within, steps_for, at_most, missed_adds, looks_lost, pass_after, put_adds}
+use Rattle.report_api.proofs.{missing_within, steps_for, first_in, kept_asks, missed_adds, looks_lost, pass_after, put_adds}
 use Rattle.report_api.proofs.pass.Pass.put_with_context.Goals as goal
 
 pub put_missing-requires-clause-few : goal.put_missing-requires-clause-few
@@ -20,7 +20,7 @@ returns-in-Some c =
     record {
       mine = pass_after c.requires.at _ c.put.ensures.mine c.put.ensures.held c.put.ensures.spare _ (put_adds _ _ _ refl told) did.mine did.counted.1
           (omega (arith, did.counted.0)) _ did.logs
-          (λ i. grind (arith, c.fill.ensures, did.told, eq-eqb i c.in-Some.buf.class, ne_eqb i c.in-Some.buf.class, at_most first i looks, lost_past first i looks));
+          (λ i. rw (c.fill.ensures, ← (first_in (length bytes) 0 sizes c.requires.at.claimant.are.rise).0) (kept_asks first i c.in-Some.buf looks did.told.0));
       ticket = c.put.ensures.ticket;
       told = (Kept filled.class filled.claim filled, grind (arith, c.requires.some, c.fill.ensures, did), told);
       classes = (λ nothing. absurd (omega (arith, c.requires.some, ap length nothing)), λ any. (c.in-Some.buf, looks, did.told, did.steps));
