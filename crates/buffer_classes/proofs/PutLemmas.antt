@@ -73,5 +73,6 @@ gave_back bufs i old begun put new b p o =
       filled_up = grind (arith, b.3, p.filled_up, o.late_is, o.vacant_is);
       none_filled = o.none_filled;
       back_is = grind (arith, gave.back_is, reap.run, only.back_is);
+      released_is = grind (arith, gave.released_is, reap.run, only.released_is);
       number_is = o.number_is ∙ same.0;
     }

@@ -71,6 +71,7 @@ pub record GaveBack (bufs : List Buffer) (i : ℕ) (old new : Giver) : Type 0 wh
   pub filled_up : IsFilledUp new
   pub none_filled : filled_count new ≡ 0
   pub back_is : (giver_memo new).back ≡ (giver_memo old).back
+  pub released_is : (giver_memo new).released ≡ (giver_memo old).released
   pub number_is : new.number ≡ old.number
 
 -- the claimant's seat of class i came back

@@ -1,8 +1,11 @@
 -- What a close leaves.
-use Rattle.main_function.proofs.Names.{◌≡◌, ℕ, suc, Option, List, [], ◌∷◌, ◌++◌, length, map, DeskMemo, ap, refl, sym, ◌∙◌, sum_by, arith, length-map, sum_by-cons, Turn, Parts, Buffer, AllOf, givers_of, AreAllBack, AreAllSwept, IsAllTaken, EachSettled, IsDeskOf, desk_memo, to_give_back, PassMemo, lost_events, missing_in, Desk, Shared, all_calls, all_accepted, Closed, OnlyWelcomes, all_back, came, plain_item, IsManagerOf, Stands, Turned, Manager, get_elem?, some}
+use Rattle.main_function.proofs.Names.{◌≡◌, ℕ, suc, Option, List, [], ◌∷◌, ◌++◌, length, map, DeskMemo, ap, refl, sym, ◌∙◌, sum_by, arith, length-map, sum_by-cons, Turn, Parts, Buffer, AllOf, givers_of, AreAllBack, AreAllSwept, IsAllTaken, EachSettled, IsDeskOf, desk_memo, to_give_back, PassMemo, lost_events, missing_in, Desk, Shared, all_calls, all_accepted, settled_classes, Closed, OnlyWelcomes, all_back, came, plain_item, IsManagerOf, Stands, Turned, Manager, get_elem?, some}
 use Rattle.atomic_table.proofs.Lists.{at_map}
 use Rattle.report_queue.proofs.ClosingLemmas.{at_map_back}
 use Rattle.permit_ring.specs.{ended, marks_back}
+use Rattle.buffer_classes.proofs.{all_then}
+use Rattle.buffer_classes.specs.{ClassMemo}
+use Rattle.law_closing.specs.{ClosedDesk, IsMadeFor}
 use Rattle.main_function.proofs.WelcomeLemmas.{only_back}
 
 -- a sum over passes that came back
@@ -44,6 +47,21 @@ module _ {C : Type 0} (stands : C → Parts → List Turn → Type 0) (events : 
       let accepted = all_accepted (desk_memo new.desk) passes (taken all) its_back in
       let events = sum_came (marks_back 0) lost_events passes (λ i pass at. refl) in
       let contexts = sum_came (marks_back 1) (λ (pass : PassMemo). missing_in pass.log) passes (λ i pass at. mine.desk_is.tied.missing i (ended pass) (rw its_back (at_map came passes i pass at))) in
+      let closed : (config : Parts) (turns : List Turn) → IsMadeFor config shared → Stands stands config old turns → ClosedDesk =
+      λ config turns made_for is. record {
+        config = config;
+        passes = passes;
+        turns = turns ++ turned.turn ∷ [];
+        shared = shared;
+        desk = new.desk;
+        made_for = made_for;
+        is_desk = mine.desk_is;
+        are_back = its_back;
+        all_taken = taken all;
+        settled = settled all;
+        shows = sym (shows config turns is).items_are;
+        fronts_are = grind (arith, (shows config turns is).fronts_are, mine.positions_are, made_for.positions_are);
+      } in
       record {
         givers = givers_of desk.givers;
         welcomed = givers;
@@ -51,20 +69,11 @@ module _ {C : Type 0} (stands : C → Parts → List Turn → Type 0) (events : 
         are_back = its_back;
         released_is = turned.released_is ∙ ap (λ (k : DeskMemo). k.released) (told ∙ (only_back passes (desk_memo old.desk)).0);
         go_on = (taken all).go_on;
-        all_calls = λ config turns made_for is. all_calls (record {
-          config = config;
-          passes = passes;
-          turns = turns ++ turned.turn ∷ [];
-          shared = shared;
-          desk = new.desk;
-          made_for = made_for;
-          is_desk = mine.desk_is;
-          are_back = its_back;
-          all_taken = taken all;
-          settled = settled all;
-          shows = sym (shows config turns is).items_are;
-          fronts_are = grind (arith, (shows config turns is).fronts_are, mine.positions_are, made_for.positions_are);
-        });
+        all_calls = λ config turns made_for is. all_calls (closed config turns made_for is);
+        classes = λ config turns made_for is. settled_classes (closed config turns made_for is);
+        tied = mine.desk_is.tied;
+        settled = settled all;
+        classes_released = all_then givers turned.buffers.gave (λ i old mid new a b. b.released_is ∙ ap (λ (k : ClassMemo). k.released) a.memo_is);
         sums = λ config turns is. grind (arith, mine.totals_are, shows config turns is, length-map (desk_memo new.desk).notes plain_item);
         counts = grind (arith, mine.totals_are, accepted, swept all, its_back, events, contexts);
       }

@@ -1,22 +1,22 @@
 -- A desk that holds passes one after another, and releases them.
-use Rattle.main_function.proofs.Names.{◌≡◌, ℕ, suc, ◌+◌, List, [], ◌∷◌, ◌++◌, length, map, slice_set, refl, sym, ap, ◌∙◌, arith, at_length, there, AllOf, IsDeskOf, IsPassOf, welcomes, givers_of, desk_memo, to_give_back, DeskMemo, PassMemo, pass_memo, Pass, Shared, OnlyWelcomes, all_back, common_steps, get_elem?, some}
+use Rattle.main_function.proofs.Names.{◌≡◌, ℕ, suc, ◌+◌, List, [], ◌∷◌, ◌++◌, length, map, slice_set, refl, ap, ◌∙◌, arith, append-nil, append_assoc, at_length, there, length-map, map_push, take, AllOf, IsDeskOf, IsPassOf, welcomes, givers_of, desk_memo, to_give_back, DeskMemo, pass_memo, Pass, Shared, OnlyMoves, OnlyWelcomes, all_back, common_steps, get_elem?, some}
 use Rattle.std.specs.Prelude.{zero, ◌<◌, ◌≤◌, ◌≢◌, Option, Some, None, drop}
-use Rattle.std.proofs.Common.{add-one, inl, inr, take}
+use Rattle.std.proofs.Common.{add-one, inl, inr}
 use Rattle.std.proofs.Math.Seq.{take-suc-set}
 use Rattle.std.proofs.lemmas.Bool.{cases_eq}
-use Rattle.std.proofs.lemmas.List.{append_assoc, length-map, length-set, map_push}
-use Rattle.atomic_table.proofs.Lists.{at_map, at_set, drop_at, set_here, set_else}
-use Rattle.buffer_classes.proofs.ByIndexLemmas.{Below, below_more, From, from_more}
-use Rattle.buffer_classes.specs.{IsClaimSeatOf, giver_memo, memo_at}
-use Rattle.report_queue.proofs.{at_map_back}
+use Rattle.std.proofs.lemmas.List.{length-set, length_push}
+use Rattle.atomic_table.proofs.Lists.{at_last, at_longer, at_map, at_set, drop_at, set_here, set_else}
+use Rattle.buffer_classes.proofs.ByIndexLemmas.{Below, below_more, From, from_more, still}
+use Rattle.buffer_classes.specs.Names.{SeatMemo as ClassMemo}
+use Rattle.buffer_classes.specs.{giver_memo, memo_at}
 use Rattle.buffer_classes.specs.declared.giver.Giver.{Giver}
-use Rattle.permit_ring.specs.{ended, first_back}
+use Rattle.permit_ring.specs.{Releases, ended, first_back, resumed, resumes, seat_memo}
+use Rattle.permit_ring.specs.declared.memo.KeeperMemo.{KeeperMemo}
 use Rattle.permit_ring.specs.declared.memo.SeatMemo.{SeatMemo}
 use Rattle.report_api.proofs.WelcomeLemmas.{came}
 use Rattle.report_api.specs.declared.desk.Desk.{Desk}
-use Rattle.report_api.proofs.ReleaseLemmas.{desk_is, seat_is, went}
 use Rattle.report_api.specs.{IsNextPass}
-use Rattle.main_function.specs.{AreHeldFrom, GoesOnFrom, IsHeldAt, IsHeldBy, IsReleasedBy, OnlyMoves, OnlyMovesGiver, memos_of}
+use Rattle.main_function.specs.{AreHeld, GoesOnFrom, IsHeldAt, IsHeldBy, IsReleasedBy, ReleasedSeats, memos_of}
 use Rattle.main_function.proofs.WelcomeLemmas.{only_more}
 
 -- where none before stands there, it is the first
@@ -28,7 +28,7 @@ first_is (Some other ∷ back) (suc c) memo none at = let wrong = none 0 (omega 
 first_is (None ∷ back) zero memo none at = grind arith
 first_is (None ∷ back) (suc c) memo none at = first_is back c memo (λ j low. none (suc j) (omega arith)) at
 
-module _ (shared : Shared) (desk after : Desk) (pass now : Pass) (mine : IsDeskOf shared desk) (its : IsPassOf shared pass)
+module _ {shared : Shared} {desk after : Desk} {pass now : Pass} (mine : IsDeskOf shared desk) (its : IsPassOf shared pass)
     (did : IsHeldBy shared pass now desk after) where
   abbrev c : ℕ
   c = (pass_memo pass).number
@@ -84,184 +84,165 @@ stood_there {olds = olds} was j now low here =
     rw ((was.stay.each j stood.0 now stood.1 here).1 low) stood.1
 
 -- one more is held
-pub holding_more : {P : Type 0} (pass_of : P → Pass) (stays : P → P → Type 0) (shared : Shared) (first desk after : Desk) (olds nows : List P) (left : ℕ)
-    (old new : P) → Holding pass_of stays shared first desk olds nows (left + 1) → get_elem? nows left ≡ some old → IsPassOf shared (pass_of old)
+pub holding_more : {P : Type 0} {pass_of : P → Pass} {stays : P → P → Type 0} {shared : Shared} {first desk after : Desk} {olds nows : List P} {most : ℕ} (left : ℕ)
+    (old new : P) → most ≡ left + 1 → Holding pass_of stays shared first desk olds nows most → get_elem? nows left ≡ some old → IsPassOf shared (pass_of old)
     → (pass_memo (pass_of old)).number ≡ left → length olds ≡ length (desk_memo first).back → IsDeskOf shared after → IsHeldBy shared (pass_of old) (pass_of new) desk after
     → stays old new → Holding pass_of stays shared first after olds (slice_set nows left new) left
-holding_more pass_of stays shared first desk after olds nows left old new was here its number all mine did stay =
+holding_more {pass_of = pass_of} {olds = olds} {nows = nows} left old new one was here its number all mine did stay =
     let memo_at : get_elem? (memos_of pass_of olds) left ≡ some (pass_memo (pass_of old)) =
-    at_map (λ has. pass_memo (pass_of has)) olds left old (stood_there was left old (omega arith) here) in
+    at_map (λ has. pass_memo (pass_of has)) olds left old (stood_there was left old (omega (arith, one)) here) in
     record {
       mine = mine;
-      few = omega (arith, was.few);
-      long = held_long shared desk after (pass_of old) (pass_of new) was.mine its did ∙ was.long;
+      few = omega (arith, one, was.few);
+      long = held_long was.mine its did ∙ was.long;
       counts = did.came.counts ∙ was.counts;
       told = rw (drop_at (memos_of pass_of olds) left (pass_memo (pass_of old)) memo_at)
-          (did.came.told ∙ ap (welcomes (pass_memo (pass_of old))) (rw (add-one left) at was.told));
+          (did.came.told ∙ ap (welcomes (pass_memo (pass_of old))) (rw (one, add-one left) at was.told));
       came_so_far = was.came_so_far + 1;
-      so_many = omega (arith, was.so_many);
-      givers = only_more was.came_so_far shared (pass_of old) _ _ _ its was.mine.givers.all was.givers did.givers_are;
-      stay = from_more left old new here stay was.stay;
+      so_many = omega (arith, one, was.so_many);
+      givers = only_more was.came_so_far _ (pass_of old) _ _ _ its was.mine.givers.all was.givers did.givers_are;
+      stay = from_more left old new here stay (rw one at was.stay);
       held = λ j now low at. elim (at_set nows left j new now at) [
-        | inl it ↦ rw (it.0, ← it.1, ← number) (held_here shared desk after (pass_of old) (pass_of new) was.mine its did
-            (omega (arith, number, all, was.long, was.so_many)))
-        | inr other ↦ held_there shared desk after (pass_of old) (pass_of new) was.mine its did j (pass_of now)
-            (λ e. other.0 (e ∙ number)) (was.held j now (omega (arith, low, other.0)) other.1)
+        | inl it ↦ rw (it.0, ← it.1, ← number) (held_here was.mine its did (omega (arith, one, number, all, was.long, was.so_many)))
+        | inr other ↦ held_there was.mine its did j (pass_of now) (λ e. other.0 (e ∙ number)) (was.held j now (omega (arith, one, low, other.0)) other.1)
       ];
     }
 
--- the pass at the first place where one is held is the next
-pub next_pass : {shared : Shared} {desk : Desk} {passes : List Pass} (i : ℕ) (pass : Pass) → AreHeldFrom shared desk i passes
-    → get_elem? passes i ≡ some pass → IsNextPass shared desk pass
-next_pass {desk = desk} i pass held here =
-    let at = held.held i pass (omega arith) here in
-    record {
-      memo = at.memo;
-      memos = at.memos;
-      is_first = first_is (desk_memo desk).back i at.memo held.gone at.back_at;
-      firsts = λ k giver g. first_is (giver_memo giver).back i (at.memos k) (λ j low. held.givers_gone j k giver low g) (at.givers_at k giver g);
-      held = at.held;
-    }
+module _ {N : Type 0} where
+  -- the seats before a place went on, the first first, and those from it on stay
+  pub record WentOn (i : ℕ) (nows : List (SeatMemo N)) (old new : KeeperMemo N) : Type 0 where
+    pub memo_is : new ≡ record old { back = new.back; released = new.released; moves = new.moves }
+    pub moves_are : length new.moves ≡ length old.moves + i
+    pub remembers : new.released ≡ old.released ++ nows
+    pub all : length nows ≡ i
+    pub long : length new.back ≡ length old.back
+    pub gone : (c : ℕ) → c < i → get_elem? new.back c ≡ some None
+    pub same : (c : ℕ) → i ≤ c → get_elem? new.back c ≡ get_elem? old.back c
+    pub go_on : (c : ℕ) (memo : SeatMemo N) → c < i → get_elem? old.back c ≡ some (Some memo) → get_elem? nows c ≡ some (resumed old.offered memo)
 
--- the passes before one went on, and those from it on are held
+  -- none went on yet
+  pub none_went : (k : KeeperMemo N) → WentOn 0 [] k k
+  none_went k = grind (arith, append-nil k.released)
+
+  module _ {i : ℕ} {nows : List (SeatMemo N)} {old mid : KeeperMemo N} (went : WentOn i nows old mid) (memo : SeatMemo N)
+      (here : get_elem? old.back i ≡ some (Some memo)) where
+    -- the seat at the place is the next
+    pub is_next : first_back mid.back ≡ Some memo
+    is_next = first_is mid.back i memo went.gone (went.same i (omega arith) ∙ here)
+
+    -- and goes on
+    pub one_more : {new : KeeperMemo N} {seat : SeatMemo N} → Releases mid new seat → memo.number ≡ i
+        → (seat ≡ resumed old.offered memo) × WentOn (i + 1) (nows ++ seat ∷ []) old new
+    one_more {new} {seat} did number =
+        let same : did.memo ≡ memo = grind (arith, did.is_first, is_next) in
+        let new_is : new ≡ resumes memo mid = did.keeper_is ∙ ap (λ m. resumes m mid) same in
+        let seat_is : seat ≡ resumed old.offered memo = grind (arith, did.seat_is, same, went.memo_is) in
+        let back_is : new.back ≡ slice_set mid.back i None = grind (arith, new_is, number) in
+        let low = at_length old.back i (Some memo) here in (
+          seat_is,
+          record {
+            memo_is = grind (arith, new_is, went.memo_is);
+            moves_are = grind (arith, common_steps, new_is, went.moves_are);
+            remembers = grind (arith, new_is, seat_is, went.memo_is, went.remembers, append_assoc old.released nows (seat ∷ []));
+            all = grind (arith, length_push nows seat, went.all);
+            long = grind (arith, back_is, length-set mid.back i None, went.long);
+            gone = λ c past. elim (cases_eq c i) [
+              | inl it ↦ rw (back_is, it) (set_here mid.back i None (omega (arith, low, went.long)))
+              | inr away ↦ rw back_is (set_else mid.back i c None away ∙ went.gone c (omega (arith, past, away)))
+            ];
+            same = λ c past. rw back_is (set_else mid.back i c None (λ e. omega (arith, past, e)) ∙ went.same c (omega (arith, past)));
+            go_on = λ c other past at. elim (cases_eq c i) [
+              | inl it ↦
+                  let its : other ≡ memo = grind (arith, at, it, here) in
+                  rw (it, its) (at_last nows seat i went.all ∙ ap some seat_is)
+              | inr away ↦ at_longer nows (seat ∷ []) c _ (went.go_on c other (omega (arith, past, away)) at)
+            ];
+          },
+        )
+
+-- the seats of a class before a place went on
+abbrev pub SeatsWent : ℕ → Giver → Giver → Type 0
+SeatsWent i old new = (nows : List ClassMemo) × WentOn i nows (giver_memo old) (giver_memo new)
+
+-- the passes before one went on, and those from it on are as they were
 pub record Releasing {P : Type 0} (pass_of : P → Pass) (stays : P → P → Type 0) (shared : Shared) (first desk : Desk) (olds nows : List P) (i : ℕ) : Type 0 where
   pub mine : IsDeskOf shared desk
-  pub held : AreHeldFrom shared desk i (map pass_of nows)
   pub went_on : (j : ℕ) (now : P) → j < i → get_elem? nows j ≡ some now → GoesOnFrom shared first j (pass_of now)
-  pub same : (j : ℕ) → i ≤ j → get_elem? (desk_memo desk).back j ≡ get_elem? (desk_memo first).back j
-  pub moved : OnlyMoves i first desk
-  pub remembered : (desk_memo desk).released ≡ (desk_memo first).released ++ memos_of pass_of (take i nows)
+  pub counts : to_give_back desk ≡ to_give_back first
+  pub went : WentOn i (memos_of pass_of (take i nows)) (desk_memo first) (desk_memo desk)
+  pub seats : AllOf (λ k. SeatsWent i) (givers_of first.givers) (givers_of desk.givers)
   pub stay : AllOf (Below (λ j. stays) i) olds nows
 
-module _ (shared : Shared) (desk after : Desk) (passes : List Pass) (i : ℕ) (pass now : Pass) (mine : IsDeskOf shared desk)
-    (held : AreHeldFrom shared desk i passes) (here : get_elem? passes i ≡ some pass) (did : IsReleasedBy shared now desk after) where
-  at_i : IsHeldAt shared desk i pass
-  at_i = held.held i pass (omega arith) here
-
-  next : IsNextPass shared desk pass
-  next = next_pass i pass held here
-
-  number_of : next.memo.number ≡ i
-  unfolding next next_pass at_i
-  number_of = at_i.number_is
-
-  back_at_i : get_elem? (desk_memo desk).back i ≡ some (Some next.memo)
-  unfolding next next_pass at_i
-  back_at_i = at_i.back_at
-
-  seat_there : IsClaimSeatOf shared.classes now.claimant
-  seat_there = did.is_pass.at.claimant
-
-  desk_now : desk_memo after ≡ record (desk_memo desk) {
-    back = slice_set (desk_memo desk).back i None;
-    released = (desk_memo desk).released ++ pass_memo now ∷ [];
-    moves = (desk_memo after).moves;
-  }
-  desk_now =
-      let is = desk_is shared desk after pass now mine next did.told seat_there did.givers_are in
-      let seat = seat_is shared desk after pass now mine next did.told seat_there did.givers_are in
-      grind (arith, is, seat, number_of)
-
-  moves_now : length (desk_memo after).moves ≡ length (desk_memo desk).moves + 1
-  moves_now =
-      let is = desk_is shared desk after pass now mine next did.told seat_there did.givers_are in
-      grind (arith, common_steps, is)
-
-  giver_now : (k : ℕ) (giver : Giver) → get_elem? (givers_of after.givers) k ≡ some giver → (old : Giver) × (get_elem? (givers_of desk.givers) k ≡ some old)
-      × ((giver_memo giver).back ≡ slice_set (giver_memo old).back i None)
-  giver_now k giver at =
-      let was = went shared desk after pass now mine next did.told seat_there did.givers_are k giver at in
-      (was.0, was.2, was.4 ∙ ap (λ n. slice_set (giver_memo was.0).back n None) number_of)
-
-  still_held : (j : ℕ) (other : Pass) → j ≢ i → IsHeldAt shared desk j other → IsHeldAt shared after j other
-  still_held j other away was = record {
-    memo = was.memo;
-    memos = was.memos;
-    number_is = was.number_is;
-    back_at = rw desk_now (set_else (desk_memo desk).back i j None away ∙ was.back_at);
-    givers_at = λ k giver at.
-        let old = giver_now k giver at in
-        rw old.2 (set_else (giver_memo old.0).back i j None away ∙ was.givers_at k old.0 old.1);
-    held = was.held;
-  }
-
-  -- one pass more went on, and those behind are held
-  pub held_after : (nows : List Pass) → length nows ≡ length passes
-      → ((j : ℕ) (other : Pass) → i < j → get_elem? nows j ≡ some other → get_elem? passes j ≡ some other) → AreHeldFrom shared after (i + 1) nows
-  held_after nows many same =
-      let long = length-set (desk_memo desk).back i None in
-      let here_low = at_length (desk_memo desk).back i (Some next.memo) back_at_i in
-      record {
-        all = grind (arith, desk_now, long, held.all, many);
-        held = λ j other low at. still_held j other (λ e. omega (arith, low, e)) (held.held j other (omega (arith, low)) (same j other (omega (arith, low)) at));
-        gone = λ j low. elim (cases_eq j i) [
-          | inl it ↦ rw (desk_now, it) (set_here (desk_memo desk).back i None here_low)
-          | inr away ↦ rw desk_now (set_else (desk_memo desk).back i j None away ∙ held.gone j (omega (arith, low, away)))
-        ];
-        givers_gone = λ j k giver low at.
-            let old = giver_now k giver at in
-            let there_low = at_length (giver_memo old.0).back i _ (at_i.givers_at k old.0 old.1) in
-            elim (cases_eq j i) [
-              | inl it ↦ rw (old.2, it) (set_here (giver_memo old.0).back i None there_low)
-              | inr away ↦ rw old.2 (set_else (giver_memo old.0).back i j None away ∙ held.givers_gone j k old.0 (omega (arith, low, away)) old.1)
-            ];
-      }
-
-  pub goes_on_at : GoesOnFrom shared desk i now
-  goes_on_at =
-      let is = seat_is shared desk after pass now mine next did.told seat_there did.givers_are in
-      record { is_pass = did.is_pass; number_is = rw is number_of; memo = next.memo; back_at = back_at_i; goes_on = is }
-
-  pub moved_more : (moved : ℕ) (first : Desk) → OnlyMoves moved first desk → OnlyMoves (moved + 1) first after
-  moved_more moved first was = record {
-    memo_is = grind (arith, was.memo_is, desk_now);
-    moves_are = omega (arith, was.moves_are, moves_now);
-    as_many = grind (arith, desk_now, length-set (desk_memo desk).back i None, was.as_many);
-    counts = did.told.counts ∙ was.counts;
+module _ {P : Type 0} {pass_of : P → Pass} {stays : P → P → Type 0} {shared : Shared} {first desk : Desk} {olds nows : List P} {i : ℕ}
+    (held : AreHeld shared first (map pass_of olds)) (was : Releasing pass_of stays shared first desk olds nows i) where
+  -- the desk and the givers once all passes went on
+  pub all_moved : (n : ℕ) → i ≡ n → OnlyMoves n first desk
+  all_moved n end = rw (← end) (record {
+    memo_is = was.went.memo_is;
+    moves_are = was.went.moves_are;
+    as_many = was.went.long;
+    counts = was.counts;
     givers_are = record {
-      as_many = did.givers_are.as_many ∙ was.givers_are.as_many;
-      each = λ k old new was_there is.
-          let mid = there (givers_of desk.givers) k (omega (arith, at_length (givers_of first.givers) k old was_there, was.givers_are.as_many)) in
-          let seat = there now.claimant.seats.items k (omega (arith, at_length (givers_of desk.givers) k mid.0 mid.1, mine.givers.all, seat_there.all)) in
-          grind (arith, common_steps, was.givers_are.each k old mid.0 was_there mid.1, (did.givers_are.each k mid.0 new mid.1 is seat.0 seat.1).told.keeper_is);
+      as_many = was.seats.as_many;
+      each = λ k old new stood is. let on = (was.seats.each k old new stood is).1 in record { memo_is = on.memo_is; moves_are = on.moves_are };
     };
+  })
+
+  pub all_seats : IsDeskOf shared first → (n : ℕ) → i ≡ n → length olds ≡ n → AllOf (λ k. ReleasedSeats n) (givers_of first.givers) (givers_of desk.givers)
+  all_seats mine n end many = record {
+    as_many = was.seats.as_many;
+    each = λ k old new stood is.
+        let on = was.seats.each k old new stood is in
+        record {
+          nows = on.0;
+          remembers = on.1.remembers;
+          all = on.1.all ∙ end;
+          go_on = λ c memo at. on.1.go_on c memo (omega (arith, at_length (giver_memo old).back c (Some memo) at, mine.tied.as_many k old stood, held.all, length-map olds pass_of, end, many)) at;
+        };
   }
 
--- one more went on
-pub releasing_more : {P : Type 0} (pass_of : P → Pass) (stays : P → P → Type 0) (shared : Shared) (first desk after : Desk) (olds nows : List P) (i : ℕ)
-    (old new : P) → Releasing pass_of stays shared first desk olds nows i → get_elem? nows i ≡ some old → IsDeskOf shared after
-    → IsReleasedBy shared (pass_of new) desk after → stays old new → Releasing pass_of stays shared first after olds (slice_set nows i new) (i + 1)
-releasing_more pass_of stays shared first desk after olds nows i old new was here mine did stay =
-    let at = at_map pass_of nows i old here in
-    let on = goes_on_at shared desk after (map pass_of nows) i (pass_of old) (pass_of new) was.mine was.held at did in
-    let low = at_length nows i old here in
-    let behind : (j : ℕ) (other : Pass) → i < j → get_elem? (map pass_of (slice_set nows i new)) j ≡ some other → get_elem? (map pass_of nows) j ≡ some other =
-    λ j other past its.
-    let found = at_map_back pass_of (slice_set nows i new) j other its in
-    rw (← found.2) (at_map pass_of nows j found.0 (rw (set_else nows i j new (λ e. omega (arith, past, e))) at found.1)) in
-    let many : length (map pass_of (slice_set nows i new)) ≡ length (map pass_of nows) =
-    length-map (slice_set nows i new) pass_of ∙ length-set nows i new ∙ sym (length-map nows pass_of) in
-    record {
-      mine = mine;
-      held = held_after shared desk after (map pass_of nows) i (pass_of old) (pass_of new) was.mine was.held at did _ many behind;
-      went_on = λ j now past its. elim (at_set nows i j new now its) [
-        | inl it ↦ rw (it.0, ← it.1) (record {
-          is_pass = on.is_pass;
-          number_is = on.number_is;
-          memo = on.memo;
-          back_at = sym (was.same i (omega arith)) ∙ on.back_at;
-          goes_on = rw was.moved.memo_is at on.goes_on;
-        })
-        | inr other ↦ was.went_on j now (omega (arith, past, other.0)) other.1
-      ];
-      same = λ j past. rw (desk_now shared desk after (map pass_of nows) i (pass_of old) (pass_of new) was.mine was.held at did)
-          (set_else (desk_memo desk).back i j None (λ e. omega (arith, past, e)) ∙ was.same j (omega (arith, past)));
-      moved = moved_more shared desk after (map pass_of nows) i (pass_of old) (pass_of new) was.mine was.held at did i first was.moved;
-      remembered =
-          let more = take-suc-set nows i new low in
-          let now = ap (λ (k : DeskMemo). k.released) (desk_now shared desk after (map pass_of nows) i (pass_of old) (pass_of new) was.mine was.held at did) in
-          rw (add-one i) (now ∙ ap (λ released. released ++ pass_memo (pass_of new) ∷ []) was.remembered
-          ∙ append_assoc (desk_memo first).released (memos_of pass_of (take i nows)) (pass_memo (pass_of new) ∷ [])
-          ∙ ap (λ memos. (desk_memo first).released ++ memos) (sym (map_push (λ has. pass_memo (pass_of has)) (take i nows) new) ∙ ap (memos_of pass_of) (sym more)));
-      stay = below_more i old new here stay was.stay;
+  module _ (has : P) (here : get_elem? nows i ≡ some has) where
+    at_i : IsHeldAt shared first i (pass_of has)
+    at_i = held.each i (pass_of has) (at_map pass_of olds i has (still has was.stay here))
+
+    -- the pass there is the next
+    pub next_pass : IsNextPass shared desk (pass_of has)
+    next_pass = record {
+      memo = at_i.memo;
+      memos = at_i.memos;
+      is_first = is_next was.went at_i.memo at_i.back_at;
+      firsts = λ k giver is.
+          let old = there (givers_of first.givers) k (omega (arith, at_length (givers_of desk.givers) k giver is, was.seats.as_many)) in
+          is_next (was.seats.each k old.0 giver old.1 is).1 (at_i.memos k) (at_i.givers_at k old.0 old.1);
+      held = at_i.held;
     }
+
+    -- and goes on
+    pub releasing_more : {after : Desk} (now : P) → IsDeskOf shared after → IsReleasedBy shared (pass_of now) desk after → stays has now
+        → Releasing pass_of stays shared first after olds (slice_set nows i now) (i + 1)
+    releasing_more {after} now mine did stay =
+        let on = one_more was.went at_i.memo at_i.back_at did.told.told at_i.number_is in
+        let more : memos_of pass_of (take (i + 1) (slice_set nows i now)) ≡ memos_of pass_of (take i nows) ++ pass_memo (pass_of now) ∷ [] =
+        rw (add-one i) (ap (memos_of pass_of) (take-suc-set nows i now (at_length nows i has here)) ∙ map_push (λ p. pass_memo (pass_of p)) (take i nows) now) in
+        record {
+          mine = mine;
+          went_on = λ j other past is. elim (at_set nows i j now other is) [
+            | inl it ↦ rw (it.0, ← it.1) (record { is_pass = did.is_pass; number_is = rw on.0 at_i.number_is; memo = at_i.memo; back_at = at_i.back_at; goes_on = on.0 })
+            | inr away ↦ was.went_on j other (omega (arith, past, away.0)) away.1
+          ];
+          counts = did.told.counts ∙ was.counts;
+          went = rw more on.1;
+          seats = record {
+            as_many = did.givers_are.as_many ∙ was.seats.as_many;
+            each = λ k old new stood is.
+                let low = at_length (givers_of after.givers) k new is in
+                let mid = there (givers_of desk.givers) k (omega (arith, low, did.givers_are.as_many)) in
+                let seat = there (pass_of now).claimant.seats.items k (omega (arith, low, mine.givers.all, did.is_pass.at.claimant.all)) in
+                let his = there (pass_of has).claimant.seats.items k (omega (arith, low, mine.givers.all, at_i.held.claimant.all)) in
+                let number = (at_i.held.claimant.each k his.0 his.1).number_is ∙ at_i.held.number_is ∙ at_i.number_is in
+                let before = was.seats.each k old mid.0 stood mid.1 in
+                let freed = did.givers_are.each k mid.0 new mid.1 is seat.0 seat.1 in
+                (before.0 ++ seat_memo seat.0 ∷ [], (one_more before.1 (at_i.memos k) (at_i.givers_at k old stood) freed.told number).1);
+          };
+          stay = below_more i has now here stay was.stay;
+        }

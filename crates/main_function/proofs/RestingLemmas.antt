@@ -1,11 +1,8 @@
 -- A rest: a turn while the desk holds all passes, which go on then.
-use Rattle.main_function.proofs.Names.{◌≡◌, ℕ, ◌+◌, List, [], ◌∷◌, length, map, refl, sym, ap, ◌∙◌, arith, length-map, at_length, there, Turn, Parts, Buffer, AllOf, GaveBack, givers_of, IsDeskOf, desk_memo, PassMemo, pass_memo, Pass, Desk, Shared, came, IsManagerOf, Stands, Manager, get_elem?, some}
-use Rattle.std.specs.Prelude.{Some}
+use Rattle.main_function.proofs.Names.{◌≡◌, ℕ, List, [], ◌∷◌, length, map, refl, sym, ap, ◌∙◌, arith, length-map, at_length, there, Turn, Parts, Buffer, AllOf, GaveBack, givers_of, IsDeskOf, desk_memo, PassMemo, pass_memo, Pass, Desk, Shared, came, IsManagerOf, Stands, Manager, get_elem?, some}
 use Rattle.atomic_table.proofs.Lists.{at_map}
-use Rattle.report_queue.proofs.{at_map_back}
-use Rattle.buffer_classes.specs.{giver_memo}
 use Rattle.permit_ring.specs.{ended, resumed}
-use Rattle.main_function.specs.{AreAllPasses, AreHeldFrom, Closed, HaveGoneOn, IsHeldAt, OnlyMoves, Rested, memos_of}
+use Rattle.main_function.specs.{AreAllPasses, AreHeld, HaveGoneOn, OnlyMoves, memos_of}
 
 -- a list mapped twice
 pub map_twice : {A B D : Type 0} (f : B → D) (g : A → B) (l : List A) → map f (map g l) ≡ map (λ x. f (g x)) l
@@ -13,12 +10,12 @@ map_twice f g [] = refl
 map_twice f g (x ∷ l) = ap (λ rest. f (g x) ∷ rest) (map_twice f g l)
 
 -- a turn brings no pass back and releases none
-pub held_still : {shared : Shared} {desk after : Desk} {passes : List Pass} {bufs : List Buffer} → AreHeldFrom shared desk 0 passes
-    → (desk_memo after).back ≡ (desk_memo desk).back → AllOf (GaveBack bufs) (givers_of desk.givers) (givers_of after.givers) → AreHeldFrom shared after 0 passes
+pub held_still : {shared : Shared} {desk after : Desk} {passes : List Pass} {bufs : List Buffer} → AreHeld shared desk passes
+    → (desk_memo after).back ≡ (desk_memo desk).back → AllOf (GaveBack bufs) (givers_of desk.givers) (givers_of after.givers) → AreHeld shared after passes
 held_still {shared} {desk} {after} held same gave = record {
   all = held.all ∙ sym (ap length same);
-  held = λ j pass low at.
-      let was = held.held j pass low at in
+  each = λ j pass at.
+      let was = held.each j pass at in
       record {
         memo = was.memo;
         memos = was.memos;
@@ -29,8 +26,6 @@ held_still {shared} {desk} {after} held same gave = record {
             rw (gave.each i old.0 giver old.1 is).back_is (was.givers_at i old.0 old.1);
         held = was.held;
       };
-  gone = λ j low. absurd (omega (arith, low));
-  givers_gone = λ j i giver low at. absurd (omega (arith, low));
 }
 
 module _ {C : Type 0} (events : C → ℕ) (kept : C → List Buffer) (shared : Shared) (mid : Manager C) (desk : Desk) (n : ℕ) (moved : OnlyMoves n mid.desk desk) where

@@ -4,7 +4,9 @@ use Rattle.std.specs.Prelude.{◌≡◌, ℕ, ◌+◌, List, [], ◌∷◌, ◌+
 use Rattle.permit_ring.specs.{ReleasedGoOn}
 use Rattle.main_function.specs.Names.{Output, Shared, Parts, welcomes, Buffer, AllOf, givers_of, filled_count, giver_memo, vacant_count, DeskMemo, PassMemo, desk_memo, lost_events, missing_in, Giver}
 use Rattle.ids_types.specs.Turns.{Turn, entries_of}
-use Rattle.law_closing.specs.{HaveAllCalls, accepted_in, came, IsMadeFor}
+use Rattle.history_spec.specs.{AreSettled}
+use Rattle.law_closing.specs.{HaveAllCalls, accepted_in, calls_by, came, IsMadeFor}
+use Rattle.report_api.specs.{AreTied, EachSettled, asks_back, sizes_of}
 use Rattle.main_function.specs.Standing.{IsManagerOf, Stands}
 use Rattle.main_function.specs.Turning.{IsQuick, Turned}
 use Rattle.main_function.specs.declared.manager.Manager.{Manager}
@@ -24,6 +26,10 @@ pub record OnlyWelcomes (came : ℕ) (old new : Giver) : Type 0 where
   pub filled_is : filled_count new ≡ filled_count old
   pub vacant_is : vacant_count new ≡ vacant_count old
   pub number_is : new.number ≡ old.number
+
+-- the giver remembers no other seat that it released
+abbrev pub KeepsReleased : Giver → Giver → Type 0
+KeepsReleased old new = (giver_memo new).released ≡ (giver_memo old).released
 
 -- the totals are the sums over these turns
 pub record AreSumsOf (turns : List Turn) (totals : Totals) : Type 0 where
@@ -50,6 +56,12 @@ module _ {C : Type 0} (stands : C → Parts → List Turn → Type 0) (kept : C 
     -- for each history that it stood for, that with this turn has all calls of the passes, and nothing else
     pub all_calls : (config : Parts) (turns : List Turn) → IsMadeFor config shared → Stands stands config old turns
         → HaveAllCalls config passes (turns ++ turned.turn ∷ [])
+    -- and what each caller asked of each class is what its calls show, with each claim settled
+    pub classes : (config : Parts) (turns : List Turn) → IsMadeFor config shared → Stands stands config old turns → (claimants : ℕ → List ℕ)
+        × AreSettled config (turns ++ turned.turn ∷ []) (calls_by passes) (asks_back (givers_of new.desk.givers)) claimants
+    pub tied : AreTied (sizes_of shared) (desk_memo new.desk).back (givers_of new.desk.givers)
+    pub settled : EachSettled new.desk
+    pub classes_released : AllOf (λ i. KeepsReleased) (givers_of old.desk.givers) (givers_of new.desk.givers)
     pub sums : (config : Parts) (turns : List Turn) → Stands stands config old turns
         → AreSumsOf (turns ++ turned.turn ∷ []) new.totals
     pub counts : AreCountsOf passes new.totals

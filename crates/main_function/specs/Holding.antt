@@ -1,5 +1,4 @@
 -- What a desk makes of a pass that it holds or releases.
-use Rattle.std.specs.Prelude.{◌≡◌}
 use Rattle.main_function.specs.Names.{Shared, AllOf, givers_of, Desk, Pass, pass_memo, IsPassOf}
 use Rattle.buffer_classes.specs.{Freed, Welcomed, memo_at}
 use Rattle.permit_ring.specs.{ended}

@@ -10,11 +10,11 @@ pub mod Standing
 pub mod Taking
 pub mod Turning
 pub use Rattle.main_function.specs.Buffers.{IsHeld}
-pub use Rattle.main_function.specs.Closing.{all_back, OnlyWelcomes, AreSumsOf, AreCountsOf, Closed, CloseLeaves}
+pub use Rattle.main_function.specs.Closing.{all_back, OnlyWelcomes, KeepsReleased, AreSumsOf, AreCountsOf, Closed, CloseLeaves}
 pub use Rattle.main_function.specs.Holding.{IsHeldBy, IsReleasedBy}
 pub use Rattle.main_function.specs.Making.{IsBuilt, IsNewManager}
 pub use Rattle.main_function.specs.Reports.{held, ShowsHistory, sweeps_for, MakesTurn}
-pub use Rattle.main_function.specs.Resting.{memos_of, IsHeldAt, AreHeldFrom, GoesOnFrom, HaveGoneOn, OnlyMovesGiver, OnlyMoves, Rested, RestLeaves}
+pub use Rattle.main_function.specs.Resting.{memos_of, IsHeldAt, AreHeld, GoesOnFrom, HaveGoneOn, ReleasedSeats, OnlyMovesGiver, OnlyMoves, Rested, RestLeaves}
 pub use Rattle.main_function.specs.Standing.{AreTotals, AreAllPasses, Stands, IsManagerOf, largest_size, turns_of, last_of, rests_of, IsManager, HasPasses, KeepsRoom, StaysSo}
 pub use Rattle.main_function.specs.Taking.{item_of, items_of, Took}
 pub use Rattle.main_function.specs.Turning.{IsQuick, Turned, most_class_steps, most_steps, IsSmallHead, LogsOne, TurnFails, TurnLeaves}

@@ -1,6 +1,6 @@
 -- A rest: the desk holds all passes, a turn takes what is left, as at the close, and then the passes go on.
 use Rattle.std.specs.Borrow.{Bor}
-use Rattle.std.specs.Prelude.{◌≡◌, ℕ, ◌+◌, ◌<◌, ◌≤◌, Some, None, List, ◌++◌, length, map, Result, Ok, Err}
+use Rattle.std.specs.Prelude.{◌≡◌, ℕ, ◌+◌, Some, List, ◌++◌, length, map, Result, Ok, Err}
 use mathlib.Core.Option.{some}
 use lib.ListN.{get_elem?}
 use Rattle.main_function.specs.Names.{Output, Shared, Parts, Buffer, Turn, AllOf, Giver, giver_memo, givers_of, Desk, Pass, PassMemo, desk_memo, pass_memo, to_give_back, IsPassOf}
@@ -8,7 +8,7 @@ use Rattle.buffer_classes.specs.Names.{SeatMemo as ClassMemo}
 use Rattle.permit_ring.specs.{ended, resumed}
 use Rattle.report_api.specs.{IsHeldPass}
 use Rattle.main_function.specs.Closing.{Closed}
-use Rattle.main_function.specs.Standing.{AreAllPasses, IsManagerOf, Stands}
+use Rattle.main_function.specs.Standing.{IsManagerOf, Stands}
 use Rattle.main_function.specs.Turning.{IsQuick}
 use Rattle.main_function.specs.declared.manager.Manager.{Manager}
 use Rattle.main_function.specs.declared.rest.TurnFault.{TurnFault}
@@ -27,13 +27,10 @@ pub record IsHeldAt (shared : Shared) (desk : Desk) (c : ℕ) (pass : Pass) : Ty
       → get_elem? (giver_memo giver).back c ≡ some (Some (memos i))
   pub held : IsHeldPass shared memo memos pass
 
--- the desk holds all passes from caller c on, and none before
-pub record AreHeldFrom (shared : Shared) (desk : Desk) (c : ℕ) (passes : List Pass) : Type 0 where
+-- the desk holds all passes
+pub record AreHeld (shared : Shared) (desk : Desk) (passes : List Pass) : Type 0 where
   pub all : length passes ≡ length (desk_memo desk).back
-  pub held : (j : ℕ) (pass : Pass) → c ≤ j → get_elem? passes j ≡ some pass → IsHeldAt shared desk j pass
-  pub gone : (j : ℕ) → j < c → get_elem? (desk_memo desk).back j ≡ some None
-  pub givers_gone : (j i : ℕ) (giver : Giver) → j < c → get_elem? (givers_of desk.givers) i ≡ some giver
-      → get_elem? (giver_memo giver).back j ≡ some None
+  pub each : (c : ℕ) (pass : Pass) → get_elem? passes c ≡ some pass → IsHeldAt shared desk c pass
 
 -- caller c's pass, which the desk held, goes on
 pub record GoesOnFrom (shared : Shared) (desk : Desk) (c : ℕ) (pass : Pass) : Type 0 where
@@ -47,6 +44,14 @@ pub record GoesOnFrom (shared : Shared) (desk : Desk) (c : ℕ) (pass : Pass) : 
 abbrev pub HaveGoneOn : Shared → Desk → List Pass → Type 0
 HaveGoneOn shared desk passes = (length passes ≡ length (desk_memo desk).back)
     × ((c : ℕ) (pass : Pass) → get_elem? passes c ≡ some pass → GoesOnFrom shared desk c pass)
+
+-- the giver of a class released the seats of so many callers that it held, the first first, and each knows how much had been offered then
+pub record ReleasedSeats (callers : ℕ) (old new : Giver) : Type 0 where
+  pub nows : List ClassMemo
+  pub remembers : (giver_memo new).released ≡ (giver_memo old).released ++ nows
+  pub all : length nows ≡ callers
+  pub go_on : (c : ℕ) (memo : ClassMemo) → get_elem? (giver_memo old).back c ≡ some (Some memo)
+      → get_elem? nows c ≡ some (resumed (giver_memo old).offered memo)
 
 -- a giver made so many moves by which seats came or went, and nothing else
 pub record OnlyMovesGiver (moved : ℕ) (old new : Giver) : Type 0 where
@@ -72,6 +77,7 @@ module _ {C : Type 0} (stands : C → Parts → List Turn → Type 0) (kept : C 
     pub stands_then : (config : Parts) (turns : List Turn) → Stands stands config mid turns → Stands stands config new turns
     -- the desk knows them as they were released
     pub remembers : (desk_memo new.desk).released ≡ (desk_memo old.desk).released ++ nows
+    pub classes_remember : AllOf (λ i. ReleasedSeats (length passes)) (givers_of mid.desk.givers) (givers_of new.desk.givers)
     -- each knows how many positions were offered then
     pub as_many : length nows ≡ length passes
     pub go_on : (c : ℕ) (pass : PassMemo) → get_elem? passes c ≡ some pass

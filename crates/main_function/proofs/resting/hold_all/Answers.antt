@@ -1,11 +1,11 @@
-use Rattle.main_function.proofs.Names.{◌≡◌, ℕ, ◌+◌, length, map, refl, arith, subst, length-map, at_length, AllOf, OnlyWelcomes, IsPassOf, pass_memo, givers_of, get_elem?, some}
+use Rattle.main_function.proofs.Names.{◌≡◌, length, refl, arith, subst, length-map, at_length, AllOf, OnlyWelcomes, IsPassOf, pass_memo, givers_of, get_elem?, some}
 use Rattle.std.specs.Prelude.{◌-◌}
 use Rattle.atomic_table.proofs.Lists.{at_index, at_map}
-use Rattle.buffer_classes.proofs.{all_from, none_from}
+use Rattle.buffer_classes.proofs.{none_from}
 use Rattle.report_queue.proofs.{at_map_back}
 use Rattle.std.proofs.lemmas.List.{drop_all}
 use Rattle.main_function.specs.{memos_of}
-use Rattle.main_function.proofs.HoldLemmas.{Holding, holding_more, stood_there}
+use Rattle.main_function.proofs.HoldLemmas.{holding_more, stood_there}
 use Rattle.main_function.proofs.resting.hold_all.Goals.{After-index-passes-left as In-Loop}
 use Rattle.main_function.proofs.resting.hold_all.Goals as goal
 
@@ -38,11 +38,7 @@ hold-requires-clause-pass g c =
 pub loop-left-preserved : goal.loop-left-preserved
 loop-left-preserved g c =
     let d = (goal.at.loop-left-preserved g c).After-index-passes-left in
-    let one_more = subst
-    (λ n. Holding g.P.HasPass.its g.P.HasPass.stays c.args.shared.now c.args.desk.now c.loop-left.desk c.args.passes.now c.loop-left.passes n)
-    (omega (arith, c.loop-left-test.true)) c.loop-left.invariant in
-    holding_more g.P.HasPass.its g.P.HasPass.stays c.args.shared.now c.args.desk.now c.loop-left.desk c.hold.new.desk c.args.passes.now c.loop-left.passes
-    (c.loop-left.left - 1) c.index-passes-left.result c.hold.new.self one_more (here g d) (its g d).0 (its g d).1
+    holding_more (c.loop-left.left - 1) c.index-passes-left.result c.hold.new.self (omega (arith, c.loop-left-test.true)) c.loop-left.invariant (here g d) (its g d).0 (its g d).1
     (omega (arith, c.requires.passes.all, length-map c.args.passes.now g.P.HasPass.its)) c.hold.ensures.mine
     (rw (← c.index-passes-left.is) at c.hold.ensures.held) (rw (← c.index-passes-left.is) at c.hold.ensures.stays)
 
@@ -57,9 +53,7 @@ returns-clause-held g c =
     let many = length-map c.loop-left.passes g.P.HasPass.its in
     record {
       all = omega (arith, many, was.stay.as_many, was.long, c.requires.passes.all, length-map c.args.passes.now g.P.HasPass.its);
-      held = λ j pass low at.
+      each = λ j pass at.
           let found = at_map_back g.P.HasPass.its c.loop-left.passes j pass at in
           rw (← found.2) (was.held j found.0 (omega (arith, c.loop-left-test.false)) found.1);
-      gone = λ j low. absurd (omega (arith, low));
-      givers_gone = λ j i giver low at. absurd (omega (arith, low));
     }

@@ -1,6 +1,6 @@
-use Rattle.main_function.proofs.Names.{◌≡◌, ◌∙◌, ◌++◌, DeskMemo, length, length-map, map, came, desk_memo, ap, arith, refl, AllOf, pass_memo, Pass}
+use Rattle.main_function.proofs.Names.{◌≡◌, ◌∙◌, ◌++◌, DeskMemo, length, length-map, map, came, desk_memo, ap, arith, refl, pass_memo}
 use Rattle.buffer_classes.proofs.{all_then}
-use Rattle.main_function.specs.{Closed, memos_of}
+use Rattle.main_function.specs.{memos_of}
 use Rattle.main_function.proofs.ClosingLemmas.{closed_by, mine_back}
 use Rattle.main_function.proofs.QuickLemmas.{close_is_quick, rest_is_quick}
 use Rattle.main_function.proofs.RestingLemmas.{all_again, as_many, back_now, held_still, map_twice, mine_moved, stands_moved}
@@ -47,6 +47,7 @@ returns-clause-rested g c =
           c.release_all.ensures.moved g.C.Chain.stands config turns;
       remembers = c.release_all.ensures.remembers ∙ ap (λ released. released ++ memos_of g.P.HasPass.its c.release_all.new.passes)
           (did.turned.released_is ∙ ap (λ (k : DeskMemo). k.released) (c.hold_all.ensures.told ∙ (only_back memos (desk_memo c.args.self.now.desk)).0));
+      classes_remember = rw (many g d, ← c.hold_all.ensures.stays.as_many) c.release_all.ensures.classes;
       as_many = as_many g.P.HasPass.its c.args.shared.now c.step.new.self.desk c.args.passes.now c.release_all.new.passes c.release_all.ensures.passes (after_turn g d);
       go_on = back_now g.P.HasPass.its c.args.shared.now c.step.new.self.desk c.args.passes.now c.release_all.new.passes c.release_all.ensures.passes (after_turn g d);
     }
