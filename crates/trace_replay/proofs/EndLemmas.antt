@@ -1,13 +1,19 @@
 -- The end of a replay: from where its callers and its manager stand to what it gives.
-use Rattle.trace_replay.proofs.Names.{CanPlay, cases_lt, inl, inr, ◌≡◌, ℕ, suc, ◌+◌, List, [], ◌∷◌, length, map, refl, sym, ap, ◌∙◌, arith, AllByRecursion, append-nil, at_map, length-map, map-append, take_all, Turn, Parts, IsValid, all_losses, losses_from, last_tick, ticks_of, AreRounds, Buffer, PassMemo, pass_memo, Shared, fates_in, losses_in, Traced, HavePlayed, Closes, IsRecordOf, IsSmallTurn, tick_of, turns_in, all_rests, as_told, losses_by, Plays, views_of, Caller, Recorder, at_map_back, some, all_append, get_elem?}
+use Rattle.trace_replay.proofs.Names.{CanPlay, cases_lt, inl, inr, ◌≡◌, ℕ, suc, ◌+◌, List, [], ◌∷◌, length, map, refl, sym, ap, ◌∙◌, arith, AllByRecursion, append-nil, at_map, length-map, map-append, take_all, Turn, Parts, IsValid, all_losses, losses_from, last_tick, ticks_of, AreRounds, Buffer, PassMemo, pass_memo, Shared, fates_in, losses_in, Traced, calls_by, add-one, Round, rest_after, rest_by, IsPast, HavePlayed, Closes, IsRecordOf, IsSmallTurn, tick_of, turns_in, all_rests, as_told, losses_by, Plays, views_of, Caller, Recorder, at_map_back, some, all_append, get_elem?}
 use Rattle.trace_text.specs.Small.{AreSmall}
 use Rattle.trace_text.proofs.JournalLemmas.{merge_fits}
 use Rattle.law_closing.proofs.SizeLemmas.{first_is_small}
 use Rattle.law_closing.specs.Closed.{IsMadeFor, came}
 use Rattle.trace_replay.specs.Replayed.{IsReplayOver, given}
-use Rattle.permit_ring.specs.{GoesOn, ended}
-use Rattle.trace_replay.specs.{released_by}
-use Rattle.trace_replay.proofs.PastLemmas.{past_rested, past_still}
+use Rattle.std.specs.Prelude.{◌≤◌, ◌<◌, ◌*◌, Option, zero}
+use Rattle.buffer_classes.specs.{AllOf, giver_memo}
+use Rattle.buffer_classes.specs.declared.giver.Giver.{Giver}
+use Rattle.history_spec.specs.{AreSettled, ClassRest, class_at}
+use Rattle.main_function.specs.{KeepsReleased}
+use Rattle.permit_ring.specs.{GoesOn, IsSettled, SeesRests, ended}
+use Rattle.report_api.specs.{AreTied, asks_back}
+use Rattle.trace_replay.specs.{IsClassRest, ReleasedMore, released_by}
+use Rattle.trace_replay.proofs.PastLemmas.{class_rest, past_asked, past_rested, past_still, past_told}
 use Rattle.trace_replay.proofs.MergeLemmas.{merged, no_lines}
 use Rattle.trace_replay.proofs.RoundLemmas.{at_rest}
 
@@ -24,6 +30,45 @@ all_listed n from (caller ∷ callers) each =
 pub all_map : {A : Type 0} (P Q : A → Type 0) → ((x : A) → P x → Q x) → (xs : List A) → AllByRecursion P xs → AllByRecursion Q xs
 all_map P Q f [] all = tt
 all_map P Q f (x ∷ xs) all = (f x all.0, all_map P Q f xs all.1)
+
+-- who released no seat released none more
+none_more : {olds news : List Giver} → AllOf (λ i. KeepsReleased) olds news → AllOf (λ i. ReleasedMore 0) olds news
+none_more keeps = record { as_many = keeps.as_many; each = λ i old new was is. record { more = []; released_is = keeps.each i old new was is ∙ sym (append-nil _); all = refl } }
+
+-- the start and each rest after a round's last turn was a rest for the classes
+rests_at : {config : Parts} {rounds : List Round} {turns : List Turn} {released : List PassMemo} {givers : List Giver} {sizes : List ℕ} {back : List (Option PassMemo)}
+    {claimants : ℕ → List ℕ} (passes : List PassMemo) (many : length passes ≡ config.callers)
+    (past : (k : ℕ) → k < length rounds → IsPast config config.callers (k * config.callers) turns released givers (rest_after rounds k))
+    (go : (p : ℕ) (was pass : PassMemo) → get_elem? released p ≡ some was → get_elem? passes was.number ≡ some pass → GoesOn was pass)
+    (sees : (caller : ℕ) (pass : PassMemo) → get_elem? passes caller ≡ some pass → SeesRests pass.rests pass.log)
+    (are : back ≡ map came passes) (tied : AreTied sizes back givers) (each : (i : ℕ) (giver : Giver) → get_elem? givers i ≡ some giver → IsSettled (giver_memo giver))
+    (settled : AreSettled config turns (calls_by passes) (asks_back givers) claimants) (k : ℕ) → k ≤ length rounds
+    → (at : ClassRest) × IsClassRest config rounds givers turns (calls_by passes) k at
+rests_at {config} {rounds} passes many past go sees are tied each settled zero le = (
+  record { rest = rest_by rounds 0; offered = λ i. (class_at config i).number; asks = λ caller i. 0 },
+  record {
+    rest_is = refl;
+    rested = record {
+      settled = λ caller i place claimed low. absurd (omega (arith, low));
+      sees = λ caller i place claimed low at. (settled.settled caller i).decided.at_front place claimed at;
+    };
+    asked = record { asked = λ caller i. refl; within = λ caller i. omega arith };
+    at_first = λ i first. refl;
+    told = λ j i caller giver next. absurd (omega (arith, next));
+  },
+)
+rests_at {config} {rounds} passes many past go sees are tied each settled (suc k) le =
+    let its = past k (omega (arith, le)) in
+    let asked = past_asked passes many its go sees are tied each in (
+      class_rest passes many its go sees are tied each,
+      record {
+        rest_is = rw add-one refl;
+        rested = asked.0;
+        asked = asked.1;
+        at_first = λ i first. absurd (omega (arith, first));
+        told = λ j i caller giver next at low. let same : k ≡ j = omega (arith, next) in rw (← same) (past_told passes many its go sees are tied each i caller giver at low);
+      },
+    )
 
 module _ {C : Type 0} {stands : C → Parts → List Turn → Type 0} {events : C → ℕ} {kept : C → List Buffer} {config : Parts} {shared : Shared} {trace : Traced}
     {callers : List Caller} {r1 r2 : Recorder C} {tick : ℕ} {r0 : Recorder C} (plays : Plays stands events kept shared trace (length trace.rounds) callers r0 r1)
@@ -66,6 +111,11 @@ module _ {C : Type 0} {stands : C → Parts → List Turn → Type 0} {events : 
       λ p before pass rel at.
       let on = closes.go_on p before (ended pass) rel (rw closes.back_is (at_map came (views_of callers) before.number pass at)) in
       record { calls = on.calls; log_is = on.log_is; rests = on.rests; rests_are = on.rests_are } in
+      let past = λ (k : ℕ) (less : k < length trace.rounds).
+      past_still closes.advances.turns [] (rw of_config at (plays.pasts config made_for begun k less)) closes.advances.turns_are
+      (closes.released_is ∙ sym (append-nil (released_by r1))) (none_more closes.classes_are) in
+      let sees = (closes.all_calls config made_for was).sees in
+      let settled = closes.settled config made_for was in
       record {
         merged = rw losses_are merge;
         fits = rw losses_are (merge_fits config trace.rounds (turns_in r2) (losses_in config.ring (views_of callers)) valid rounds are_small merge);
@@ -83,7 +133,8 @@ module _ {C : Type 0} {stands : C → Parts → List Turn → Type 0} {events : 
         played = played;
         calls = closes.all_calls config made_for was;
         losses_are = losses_are;
-        rested = λ k less. rw losses_are (past_rested (views_of callers) played.all
-            (past_still closes.advances.turns [] (rw of_config at (plays.pasts config made_for begun k less)) closes.advances.turns_are
-            (closes.released_is ∙ sym (append-nil (released_by r1)))) gone (closes.all_calls config made_for was).sees);
+        rested = λ k less. rw losses_are (past_rested (views_of callers) played.all (past k less) gone sees);
+        claimants = settled.0;
+        settled = settled.1;
+        classes_rested = λ k. rests_at (views_of callers) played.all past gone sees closes.back_is closes.tied closes.classes_settled settled.1 k;
       }

@@ -1,3 +1,4 @@
+pub mod AskedLemmas
 pub mod EndLemmas
 pub mod MergeLemmas
 pub mod Names
@@ -6,5 +7,6 @@ pub mod RecordingLemmas
 pub mod RestLemmas
 pub mod RoundLemmas
 pub mod RoundLossLemmas
+pub mod RoundMissLemmas
 pub mod StartLemmas
 pub mod SyncLemmas

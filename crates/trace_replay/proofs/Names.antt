@@ -14,7 +14,7 @@ pub use Rattle.ids_config.specs.Valid.{IsValid}
 pub use Rattle.ids_types.specs.{kept_bytes, Turn, entry_at, entries_of, turn_at}
 pub use Rattle.main_function.specs.{IsManagerOf, last_of, turns_of, rests_told, with_rest, Turned, AreCountsOf, AreSumsOf, HasPasses}
 pub use Rattle.main_function.specs.declared.manager.Manager.{Manager}
-pub use Rattle.history_spec.specs.{all_losses, losses_from, IsMerge, AreMerged, IsAsAsked, StandsIn, KeepUpFrom, Asked, reports, changes, sets, last_tick, lines_of, ticks_of, Round, is_lost_report, lines_at, round_ticks, Misses, misses_context, entries_by, entries_from, too_small}
+pub use Rattle.history_spec.specs.{all_losses, losses_from, IsMerge, AreMerged, IsAsAsked, StandsIn, KeepUpFrom, Asked, reports, changes, sets, last_tick, lines_of, ticks_of, Round, is_lost_report, lines_at, round_ticks, Misses, misses_context, entries_by, entries_from, sizes_in, too_small}
 pub use Rattle.permit_ring.proofs.ListLemmas.{there, at_length}
 pub use Rattle.report_api.specs.{desk_memo, lost_events, pass_memo, calls_in, missing_in, plain_act, misses_context as missed_by}
 pub use Rattle.report_api.specs.Names.{Act, Absent, Kept, Missing, Lost, Got, DeskMemo, PassMemo, Report, State, SetMode, Outcome}
@@ -26,7 +26,7 @@ pub use Rattle.text_spec.proofs.TraceFacts.{keep_split, last_from-push, last_of_
 pub use Rattle.text_spec.specs.{begun_round, last_from, is_allowed, AreRounds, IsAllowedRound, AreTicks, MayAsk}
 pub use Rattle.trace_text.specs.{line_at, Traced, round_at}
 pub use Rattle.trace_replay.specs.Calls.{IsAsked, lost_report, Answers, lost_reports, CallsOnce, Told, loss_of, MayBeAsked}
-pub use Rattle.trace_replay.specs.Played.{HavePlayed, sizes_in}
+pub use Rattle.trace_replay.specs.Played.{HavePlayed}
 pub use Rattle.trace_replay.specs.{Closes, IsRecordOf, IsSmallTurn, tick_of, turns_in, Advances, Continues, TurnsAtRest, StaysSame, StillRecords, all_rests, as_told, rests_before, ticks_before, IsBetween, EndsRound, Plays, HasListed, losses_by, passes_of, views_of, rest_after, rest_by, IsPast, HasPlayed, lines_before, AreAtRest, IsAtRest, MayAllBeAsked, calls_of_each, CanPlay}
 pub use Rattle.trace_replay.specs.declared.caller.Caller.{Caller}
 pub use Rattle.trace_replay.specs.declared.gathered.Gathered.{Gathered}

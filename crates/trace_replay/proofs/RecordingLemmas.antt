@@ -1,6 +1,11 @@
 -- What was gathered, with one turn more, and with those of one list of ticks after those of another.
-use Rattle.trace_replay.proofs.Names.{◌≡◌, ℕ, List, [], ◌∷◌, ◌++◌, refl, sym, subst, ap, ◌∙◌, arith, append_assoc, length-append, length-map, map-append, Turn, Parts, last_from, Buffer, DeskMemo, Shared, IsManagerOf, rests_told, Turned, Manager, Advances, Continues, TurnsAtRest, PassMemo, desk_memo, length, turns_in, Gathered, Recorder, all_append}
+use Rattle.trace_replay.proofs.Names.{◌≡◌, ℕ, List, [], ◌∷◌, ◌++◌, refl, sym, subst, ap, ◌∙◌, arith, append_assoc, length-append, length-map, map-append, Turn, Parts, last_from, Buffer, DeskMemo, Shared, IsManagerOf, rests_told, Turned, Manager, Advances, Continues, TurnsAtRest, PassMemo, desk_memo, length, turns_in, Gathered, Recorder, all_append, get_elem?}
 use Rattle.filter_chain.proofs.TranscriptLemmas.{newest_first, transcript_more}
+use Rattle.buffer_classes.proofs.ByIndexLemmas.{all_then}
+use Rattle.buffer_classes.specs.{givers_of}
+use Rattle.report_api.specs.{asks_back}
+use Rattle.trace_replay.proofs.AskedLemmas.{asked_at_rest, released_more}
+use Rattle.trace_replay.specs.Past.{offered_at}
 use Rattle.trace_replay.specs.Recording.{Gathers}
 use Rattle.filter_chain.specs.{Sends}
 use Rattle.law_closing.specs.Closed.{came, plain_item}
@@ -32,6 +37,7 @@ module _ {C : Type 0} {stands : C → Parts → List Turn → Type 0} {events : 
         };
         back_is = then.back_is ∙ first.back_is;
         released_is = then.released_is ∙ first.released_is;
+        classes_are = all_then first.classes_are then.classes_are (λ i old mid new one more. more ∙ one);
       }
 
   module _ {old : Recorder C} {m : Manager C} {g : Gathered} (is : IsManagerOf events kept shared old.manager)
@@ -68,6 +74,7 @@ module _ {C : Type 0} {stands : C → Parts → List Turn → Type 0} {events : 
         let closed = rested.closed in
         let log : m.out.log.turns ≡ closed.turned.turn ∷ [] = ap (λ (x : Manager C). x.out.log.turns) rested.new_is ∙ closed.turned.log_is in
         let history = rw log at adds.history in
+        let asked = asked_at_rest passes closed.are_back closed.tied closed.settled closed.classes_released rested.classes_remember in
         record {
           advances = advances rested.new_is rested.stands_then closed.turned;
           as_many = rested.moved.as_many ∙ ap length closed.are_back ∙ length-map passes came ∙ all;
@@ -87,4 +94,9 @@ module _ {C : Type 0} {stands : C → Parts → List Turn → Type 0} {events : 
                 ap length shows,
                 length-map (desk_memo m.desk).notes plain_item,
               ));
+          classes_are = released_more passes closed.are_back closed.tied closed.settled closed.classes_released rested.classes_remember;
+          class_offered = λ i. offered_at (get_elem? (givers_of rested.mid.desk.givers) i);
+          asks = asks_back (givers_of rested.mid.desk.givers);
+          asked = asked;
+          settled = λ config made_for was. rw history (closed.classes config _ made_for was.stands_for);
         }

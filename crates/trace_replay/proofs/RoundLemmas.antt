@@ -1,5 +1,5 @@
 -- One round more.
-use Rattle.trace_replay.proofs.Names.{HasPasses, IsManagerOf, Manager, all_split, ◌≡◌, ℕ, ◌+◌, ◌-◌, ◌≤◌, ◌<◌, ◌^◌, List, [], ◌∷◌, ◌++◌, length, take, drop, sym, ap, subst, ◌∙◌, AllByRecursion, arith, append_assoc, length-append, All, flat_map, length-map, map-append, take_more, take-append-drop, All-from_recursion, Turn, Parts, KeepUpFrom, Round, lines_of, round_ticks, begun_round, last_from, AreTicks, flat_map-push, keep_split, last_from-push, Buffer, at_length, desk_memo, Shared, or_at, turns_of, Traced, round_at, Continues, StillRecords, turns_in, EndsRound, Plays, calls_of_each, rests_before, ticks_before, AreAtRest, IsAtRest, refl, DeskMemo, PassMemo, pass_memo, there, map, append-nil, take_all, some-injective, at_map, tick_of, cases_lt, inl, inr, AllZip-long, losses_in, lines_before, HasPlayed, views_of, passes_of, Caller, Recorder, add-one, at_map_back, some, all_append, flat_map-append, get_elem?}
+use Rattle.trace_replay.proofs.Names.{◌*◌, HasPasses, IsManagerOf, Manager, all_split, ◌≡◌, ℕ, ◌+◌, ◌-◌, ◌≤◌, ◌<◌, ◌^◌, List, [], ◌∷◌, ◌++◌, length, take, drop, sym, ap, subst, ◌∙◌, AllByRecursion, arith, append_assoc, length-append, All, flat_map, length-map, map-append, take_more, take-append-drop, All-from_recursion, Turn, Parts, KeepUpFrom, Round, lines_of, round_ticks, begun_round, last_from, AreTicks, flat_map-push, keep_split, last_from-push, Buffer, at_length, desk_memo, Shared, or_at, turns_of, Traced, round_at, Continues, StillRecords, turns_in, EndsRound, Plays, calls_of_each, rests_before, ticks_before, AreAtRest, IsAtRest, refl, DeskMemo, PassMemo, pass_memo, there, map, append-nil, take_all, some-injective, at_map, tick_of, cases_lt, inl, inr, AllZip-long, losses_in, lines_before, HasPlayed, views_of, passes_of, Caller, Recorder, add-one, at_map_back, some, all_append, flat_map-append, get_elem?}
 use Rattle.trace_replay.proofs.RecordingLemmas.{last_on}
 use Rattle.trace_replay.proofs.RestLemmas.{calls_made, two_told}
 use Rattle.trace_replay.specs.Rounds.{RestsOnce}
@@ -13,7 +13,10 @@ use Rattle.permit_ring.specs.{ended, resumed}
 use Rattle.trace_replay.proofs.PastLemmas.{newly_past, past_still}
 use Rattle.report_api.specs.Passes.{sizes_of}
 use Rattle.report_api.specs.declared.desk.Desk.{Desk}
-use Rattle.trace_replay.specs.{released_by}
+use Rattle.buffer_classes.proofs.ByIndexLemmas.{all_then}
+use Rattle.buffer_classes.specs.{giver_memo}
+use Rattle.trace_replay.specs.Past.{ReleasedMore}
+use Rattle.trace_replay.specs.{givers_in, released_by}
 use Rattle.trace_replay.specs.Names.{Asked}
 
 -- ---- ticks
@@ -132,6 +135,10 @@ module _ {C : Type 0} {stands : C → Parts → List Turn → Type 0} {events : 
         let released : released_by r4 ≡ released_by r0 ++ views_of new =
         ap (λ (d : Desk). (desk_memo d).released) ends.after.manager_is.desk_is ∙ ends.turn.remembers
         ∙ ap (λ released. released ++ views_of new) (ap (λ (d : Desk). (desk_memo d).released) ends.before.manager_is.desk_is ∙ beside.released_is) in
+        let classes = rw (← ends.after.manager_is.desk_is, ends.before.manager_is.desk_is) at ends.turn.classes_are in
+        let grown : AllOf (λ i. ReleasedMore (length (views_of mid))) (givers_in r0) (givers_in r4) =
+        all_then beside.classes_are classes (λ i old mid new kept did.
+        record { more = did.more; released_is = did.released_is ∙ ap (λ released. released ++ did.more) kept; all = did.all }) in
         let rest1 : turns_of r1.manager + 1 ≡ length (ticks_before trace.rounds (k + 1)) = omega (arith, first.count_is, between.count_is, ticks) in
         let rest3 : turns_of ends.turned.manager ≡ turns_of r1.manager + 1 = omega (arith, last.count_is, ends.before.manager_is.turns_are) in
         let rest2 : turns_of r1.manager ≡ length (ticks_before trace.rounds (k + 1)) - 1 = omega (arith, rest1) in
@@ -148,12 +155,17 @@ module _ {C : Type 0} {stands : C → Parts → List Turn → Type 0} {events : 
             last_is = ends.after.manager_is.last_is ∙ last.last_is ∙ sym (rw more (last_on 0 (ticks_before trace.rounds k) (here.beside ++ here.after ∷ [])
                 ∙ last_from-push _ here.beside here.after []));
             count_is = ends.after.manager_is.turns_are ∙ rest3 ∙ rest1;
+            released_are = omega (arith, ap length released, length-append (released_by r0) (views_of new), between.released_are, views new, many);
+            classes_are = λ i giver at.
+                let old = there (givers_in r0) i (omega (arith, grown.as_many, at_length (givers_in r4) i giver at)) in
+                let did = grown.each i old.0 giver old.1 at in
+                omega (arith, ap length did.released_is, length-append (giver_memo old.0).released did.more, between.classes_are i old.0 old.1, did.all, views mid, mids);
           };
           records = λ config is. still ends.after config (ends.turn.advances.records config (still ends.before config (first.records config (was.records config is))));
           pasts = λ config made_for is j below.
               let rested = still ends.before config (first.records config (was.records config is)) in
               elim (cases_lt j k) [
-                | inl earlier ↦ past_still (first.turns ++ last.turns) (views_of new) (was.pasts config made_for is j earlier) turns_more released
+                | inl earlier ↦ past_still (first.turns ++ last.turns) (views_of new) (was.pasts config made_for is j earlier) turns_more released grown
                 | inr late ↦
                     let same : j ≡ k = omega (arith, late, below) in
                     let turned : turns_in r4 ≡ turns_in ends.turned = ap (λ gathered. gathered.history.turns) ends.after.gathered_is in
@@ -163,10 +175,15 @@ module _ {C : Type 0} {stands : C → Parts → List Turn → Type 0} {events : 
                     let lines = fun_ext (as_many_calls (sizes_of shared) (take (k + 1) trace.rounds) (views_of mid) trace.callers
                     (all_split _ (take (k + 1) trace.rounds) _ (subst (AllByRecursion (λ round. length round.lines ≡ trace.callers)) (sym (take-append-drop (k + 1) trace.rounds)) lines)).0
                     (views mid ∙ mids) (λ i pass at. (pass_at i pass at).played)) in
-                    rw (same, turned, released) (newly_past (released_by r0) (views_of mid) (views_of new)
+                    let asked = ends.turn.asked (k * trace.callers) (λ i giver at.
+                    let at = rw ends.before.manager_is.desk_is at at in
+                    let old = there (givers_in r0) i (omega (arith, beside.classes_are.as_many, at_length (givers_in r1) i giver at)) in
+                    ap length (beside.classes_are.each i old.0 giver old.1 at) ∙ between.classes_are i old.0 old.1) in
+                    let asked = rw (← ends.after.manager_is.desk_is, ← between.released_are, views mid ∙ mids) at asked in
+                    rw (same, turned, released, ← between.released_are) (newly_past (released_by r0) (views_of mid) (views_of new)
                     (subst (λ calls. AreMerged config.ring calls (turns_in ends.turned) (losses_in config.ring (views_of mid))) lines merged) ended
                     (views mid ∙ mids)
                     (λ i pass at. let its = pass_at i pass at in (sym (AllZip-long _ _ pass.log its.played.each), sym its.played.calls_are, its.number_is))
-                    (ends.turn.offered_is config made_for rested) ends.turn.each)
+                    (ends.turn.offered_is config made_for rested) ends.turn.each asked (ends.turn.settled config made_for rested))
               ];
         }

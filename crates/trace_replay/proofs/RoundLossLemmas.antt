@@ -43,7 +43,7 @@ module _ (n : ℕ) (rounds : List Round) (each : AllByRecursion (λ round. lengt
   }
 
 -- before each round there is a rest, or the start
-rested_before : (config : Parts) (rounds : List Round) (m : Manager (Chained Buffer)) (gives : Gives) → IsReplay config rounds m gives → (k : ℕ) → k < length rounds
+pub rested_before : (config : Parts) (rounds : List Round) (m : Manager (Chained Buffer)) (gives : Gives) → IsReplay config rounds m gives → (k : ℕ) → k < length rounds
     → Rested config.ring gives.turns gives.losses (rest_by rounds k)
 rested_before config rounds m gives is zero less = record {
   settled = rw (none_lost gives.losses) (record { each_once = λ c call. grind arith; in_order = λ c. tt; legal = λ loss stands. cc; looks_keep_up = λ c. tt; losses_in_order = tt });
@@ -51,11 +51,19 @@ rested_before config rounds m gives is zero less = record {
 }
 rested_before config rounds m gives is (suc k) less = rw add-one at (is.rested k (omega (arith, less)))
 
+-- each round has as many lists of lines as there are callers
+each_caller : (config : Parts) (rounds : List Round) → AreRounds config rounds → AllByRecursion (λ round. length round.lines ≡ config.callers) rounds
+each_caller config rounds are = all_map (IsAllowedRound config) (λ round. length round.lines ≡ config.callers) (λ round its. its.callers) rounds are.allowed
+
+-- so the rest after it is later
+pub later_round : (config : Parts) (rounds : List Round) → AreRounds config rounds → (k : ℕ) → k < length rounds → IsLater config.callers (rest_by rounds k) (rest_by rounds (k + 1))
+later_round config rounds are k less = later config.callers rounds (each_caller config rounds are) k less
+
 -- between two rests at most so many are lost
 pub most : (config : Parts) (rounds : List Round) (m : Manager (Chained Buffer)) (gives : Gives) (k : ℕ) → IsReplay config rounds m gives → AreRounds config rounds
     → k < length rounds → lost_in rounds k gives.losses ≤ lines_in (round_at rounds k) - config.ring
 most config rounds m gives k is are less =
-    let each = all_map (IsAllowedRound config) (λ round. length round.lines ≡ config.callers) (λ round its. its.callers) rounds are.allowed in
+    let each = each_caller config rounds are in
     let many = All-from_recursion (λ round. length round.lines ≡ config.callers) rounds each k (begun_round 0 [] 0) less in
     let before = rested_before config rounds m gives is k less in
     let after = is.rested k less in
@@ -64,5 +72,5 @@ most config rounds m gives k is are less =
       arith,
       all,
       at_most config.ring config.callers gives.turns gives.losses (rest_by rounds k) (rest_by rounds (k + 1)) before.settled after.settled
-          (later config.callers rounds each k less) before.sees,
+          (later_round config rounds are k less) before.sees,
     )

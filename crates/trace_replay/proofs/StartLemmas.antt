@@ -1,6 +1,8 @@
 -- The start of a replay: what may be asked, and where callers and manager stand before the first round.
-use Rattle.trace_replay.proofs.Names.{all_at, desk_memo, StaysSame, ◌≡◌, ℕ, true, List, [], length, refl, sym, ap, ◌∙◌, arith, AllByRecursion, length-map, length-flat_map-take, All-from_recursion, Turn, Parts, Asked, Round, reports, changes, sets, lines_at, begun_round, is_allowed, IsAllowedRound, MayAsk, Buffer, there, Pass, Shared, or_at, line_at, Traced, round_at, MayBeAsked, IsRecordOf, IsBetween, MayAllBeAsked, losses_by, passes_of, Caller, Recorder, nil_from_length, at_map}
+use Rattle.trace_replay.proofs.Names.{all_at, desk_memo, StaysSame, ◌≡◌, ℕ, true, List, [], length, refl, sym, ap, ◌∙◌, arith, AllByRecursion, length-map, length-flat_map-take, All-from_recursion, Turn, Parts, Asked, Round, reports, changes, sets, lines_at, begun_round, is_allowed, IsAllowedRound, MayAsk, Buffer, there, at_length, Pass, Shared, or_at, line_at, Traced, round_at, MayBeAsked, IsRecordOf, IsBetween, MayAllBeAsked, losses_by, passes_of, Caller, Recorder, nil_from_length, at_map}
 use Rattle.std.proofs.lemmas.Bool.Decides.{nat_tests}
+use Rattle.buffer_classes.specs.declared.class.Class.{Class}
+use Rattle.ids_types.specs.declared.class_spec.ClassSpec.{ClassSpec}
 use Rattle.report_api.specs.Making.{IsOfConfig}
 use Rattle.report_api.specs.declared.terms.ReportTerms.{ReportTerms}
 use Rattle.trace_replay.specs.Recording.{IsNewRecorder}
@@ -51,4 +53,18 @@ module _ {C : Type 0} {stands : C → Parts → List Turn → Type 0} {events : 
           rests_are = room.rests_are ∙ new.manager_is.no_rests;
           last_is = room.manager_is.last_is ∙ new.manager_is.stands_for_none.tick_is;
           count_is = room.manager_is.turns_are ∙ new.manager_is.stands_for_none.count_is;
+          released_are = omega (arith, ap (λ desk. length (desk_memo desk).released) room.manager_is.desk_is, ap length new.manager_is.making.untouched.none_released);
+          classes_are = λ i giver at.
+              let its = rw room.manager_is.desk_is at at in
+              let making = new.manager_is.making in
+              let sizes = ap length new.manager_is.made_for.sizes in
+              let spec = there config.classes i (omega (
+                arith,
+                at_length _ i giver its,
+                making.is_desk.givers.all,
+                sizes,
+                length-map config.classes (λ (class : ClassSpec). class.size),
+                length-map shared.classes.classes.items (λ (class : Class). class.size),
+              )) in
+              omega (arith, ap length (making.givers_are i spec.0 giver spec.1 its).untouched.none_released);
         }

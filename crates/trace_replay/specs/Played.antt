@@ -1,15 +1,11 @@
 -- What the passes of a replay did, and what its turns tell of it.
-use Rattle.std.specs.Prelude.{◌≡◌, ℕ, List, length, map}
+use Rattle.std.specs.Prelude.{◌≡◌, ℕ, List, length}
 use mathlib.Core.Option.{some}
 use lib.ListN.{get_elem?}
-use Rattle.ids_types.specs.declared.class_spec.ClassSpec.{ClassSpec}
+use Rattle.history_spec.specs.Contexts.{sizes_in}
 use Rattle.trace_replay.specs.Names.{Round, lines_of, Parts}
 use Rattle.report_api.specs.Names.{PassMemo}
 use Rattle.trace_replay.specs.Standing.{HasPlayed}
-
--- the sizes of the classes
-abbrev pub sizes_in : Parts → List ℕ
-sizes_in config = map (λ (class : ClassSpec). class.size) config.classes
 
 -- each pass made the calls that the lines of its caller ask for, and each caller has one
 pub record HavePlayed (config : Parts) (rounds : List Round) (passes : List PassMemo) : Type 0 where

@@ -5,10 +5,18 @@ use Rattle.ids_types.specs.Output.{Output}
 use Rattle.trace_replay.specs.Names.{AreCountsOf, AreSumsOf, IsNewManager, IsManagerOf, Stands, StaysSo, last_of, rests_of, turns_of, IsSmallHead, Buffer, IsCausal, Parts, Turn, desk_memo, PassMemo, Pass, HaveAllCalls, IsMadeFor, came, queue_positions, Shared}
 use mathlib.Core.Option.{some}
 use lib.ListN.{get_elem?}
+use Rattle.buffer_classes.specs.{AllOf, giver_memo, givers_of}
+use Rattle.buffer_classes.specs.declared.giver.Giver.{Giver}
+use Rattle.history_spec.specs.{AreSettled}
+use Rattle.ids_types.specs.Fates.{Fate}
 use Rattle.ids_types.specs.Turns.{entries_of}
+use Rattle.law_closing.specs.{calls_by}
+use Rattle.main_function.specs.Closing.{KeepsReleased}
 use Rattle.permit_ring.specs.{ReleasedGoOn, ended, resumed}
+use Rattle.report_api.specs.{AreTied, EachSettled, asks_back, sizes_of}
 use Rattle.text_spec.specs.TraceFaults.{last_from}
 use Rattle.filter_chain.specs.Transcripts.{Adds, IsEmpty, IsTranscript}
+use Rattle.trace_replay.specs.Past.{AreAsked, ReleasedMore}
 use Rattle.trace_replay.specs.declared.gathered.Gathered.{Gathered}
 use Rattle.trace_replay.specs.declared.recorder.Recorder.{Recorder}
 
@@ -34,6 +42,10 @@ module _ {C : Type 0} where
   -- the passes that its desk released so far, as they then were
   abbrev pub released_by : Recorder C → List PassMemo
   released_by r = (desk_memo r.manager.desk).released
+
+  -- the givers of the classes
+  abbrev pub givers_in : Recorder C → List Giver
+  givers_in r = givers_of r.manager.desk.givers
 
 module _ {C : Type 0} (stands : C → Parts → List Turn → Type 0) where
   -- the manager stands for the turns that were gathered, and these gave what was gathered of them
@@ -77,6 +89,7 @@ module _ {C : Type 0} (stands : C → Parts → List Turn → Type 0) (events : 
     pub advances : Advances shared ticks old new
     pub back_is : (desk_memo new.manager.desk).back ≡ (desk_memo old.manager.desk).back
     pub released_is : released_by new ≡ released_by old
+    pub classes_are : AllOf (λ i. KeepsReleased) (givers_in old) (givers_in new)
 
   -- these passes were held, and a turn of this tick took all that was left. Each knows since how much had been offered then
   pub record TurnsAtRest (shared : Shared) (tick : ℕ) (passes nows : List PassMemo) (old new : Recorder C) : Type 0 where
@@ -89,6 +102,14 @@ module _ {C : Type 0} (stands : C → Parts → List Turn → Type 0) (events : 
     pub each : (caller : ℕ) (pass : PassMemo) → get_elem? passes caller ≡ some pass → get_elem? nows caller ≡ some (resumed offered (ended pass))
     pub offered_is : (config : Parts) → IsMadeFor config shared → IsRecordOf stands config old
         → offered ≡ length (entries_of (turns_in new)) + config.ring
+    -- so were their seats at the classes: what each had asked of each class by then is settled
+    pub classes_are : AllOf (λ i. ReleasedMore (length passes)) (givers_in old) (givers_in new)
+    pub class_offered : ℕ → ℕ
+    pub asks : ℕ → ℕ → List Fate
+    pub asked : (place : ℕ) → ((i : ℕ) (giver : Giver) → get_elem? (givers_in old) i ≡ some giver → length (giver_memo giver).released ≡ place)
+        → AreAsked (givers_in new) place (length passes) class_offered asks
+    pub settled : (config : Parts) → IsMadeFor config shared → IsRecordOf stands config old
+        → (claimants : ℕ → List ℕ) × AreSettled config (turns_in new) (calls_by passes) asks claimants
 
   -- these passes came back, and a last turn of this tick took all that was left
   pub record Closes (shared : Shared) (tick : ℕ) (passes : List PassMemo) (old new : Recorder C) : Type 0 where
@@ -98,4 +119,9 @@ module _ {C : Type 0} (stands : C → Parts → List Turn → Type 0) (events : 
     pub go_on : ReleasedGoOn (desk_memo new.manager.desk)
     pub counts : AreCountsOf passes new.manager.totals
     pub all_calls : (config : Parts) → IsMadeFor config shared → IsRecordOf stands config old → HaveAllCalls config passes (turns_in new)
+    pub classes_are : AllOf (λ i. KeepsReleased) (givers_in old) (givers_in new)
+    pub tied : AreTied (sizes_of shared) (desk_memo new.manager.desk).back (givers_in new)
+    pub classes_settled : EachSettled new.manager.desk
+    pub settled : (config : Parts) → IsMadeFor config shared → IsRecordOf stands config old
+        → (claimants : ℕ → List ℕ) × AreSettled config (turns_in new) (calls_by passes) (asks_back (givers_in new)) claimants
     pub sums : (config : Parts) → IsRecordOf stands config old → AreSumsOf (turns_in new) new.manager.totals

@@ -1,7 +1,10 @@
 -- What a replay of a trace gives, for whatever order the steps of its threads had.
-use Rattle.std.specs.Prelude.{◌≡◌, ℕ, ◌<◌, List, length, map, reverse}
+use Rattle.std.specs.Prelude.{◌≡◌, ℕ, ◌<◌, ◌≤◌, List, length, map, reverse}
 use Rattle.trace_replay.specs.Names.{Loss, Buffer, IsCausal, Parts, Turn, desk_memo, PassMemo, HaveAllCalls, losses_in, IsMadeFor, came, Shared, Manager}
-use Rattle.history_spec.specs.{IsMerge, Rested, Round}
+use Rattle.buffer_classes.specs.{givers_of}
+use Rattle.history_spec.specs.{AreSettled, ClassRest, IsMerge, Rested, Round}
+use Rattle.law_closing.specs.{calls_by}
+use Rattle.report_api.specs.{asks_back}
 use Rattle.text_spec.specs.JournalReading.{Fits}
 use Rattle.filter_chain.specs.History.{count_of, messages_of}
 use Rattle.chain_plain.specs.Telling.{ends_of}
@@ -10,7 +13,7 @@ use Rattle.event_chain.specs.Chained.{Chained}
 use Rattle.event_chain.specs.Standing.{Stands as ChainStands}
 use Rattle.main_function.specs.Standing.{IsManagerOf, Stands, rests_of}
 use Rattle.trace_replay.specs.Played.{HavePlayed}
-use Rattle.trace_replay.specs.Rests.{all_rests, as_told, rest_after}
+use Rattle.trace_replay.specs.Rests.{IsClassRest, all_rests, as_told, rest_after}
 use Rattle.trace_replay.specs.declared.recorder.Recorder.{Recorder}
 use Rattle.trace_replay.specs.declared.replaying.Replayed.{Replayed}
 
@@ -51,6 +54,12 @@ module _ {C : Type 0} (stands : C → Parts → List Turn → Type 0) (events : 
     pub losses_are : gives.losses ≡ losses_in config.ring passes
     -- at the rest after each round's last turn all calls so far are settled, and what is lost later saw all that was given back
     pub rested : (k : ℕ) → k < length rounds → Rested config.ring gives.turns gives.losses (rest_after rounds k)
+    -- what each caller asked of each class is what its calls show, and each claim is settled
+    pub claimants : ℕ → List ℕ
+    pub settled : AreSettled config gives.turns (calls_by passes) (asks_back (givers_of m.desk.givers)) claimants
+    -- so it was at the start and at each of these rests, and what was lost later saw claimed all that had been offered
+    pub classes_rested : (k : ℕ) → k ≤ length rounds → (at : ClassRest)
+        × IsClassRest config rounds (givers_of m.desk.givers) gives.turns (calls_by passes) k at
 
 -- an event chain over context data buffers stands for these turns
 abbrev pub chain_stands : Chained Buffer → Parts → List Turn → Type 0
@@ -66,6 +75,10 @@ chain_kept chain = all_kept chain.filters.windows
 -- a manager over it that replayed these rounds, and what that gave
 abbrev pub IsReplay : Parts → List Round → Manager (Chained Buffer) → Gives → Type 0
 IsReplay config rounds m gives = IsReplayOver chain_stands chain_events chain_kept config rounds m gives
+
+-- the rest by the first k rounds of a replay, as the classes knew it
+abbrev pub IsRestOf : {config : Parts} {rounds : List Round} {m : Manager (Chained Buffer)} {gives : Gives} → IsReplay config rounds m gives → ℕ → ClassRest → Type 0
+IsRestOf {config} {rounds} {m} {gives} is k at = IsClassRest config rounds (givers_of m.desk.givers) gives.turns (calls_by is.passes) k at
 
 -- what is given besides the manager
 abbrev pub gives : Replayed → Gives

@@ -3,8 +3,13 @@ use Rattle.std.specs.Prelude.{◌≡◌, ℕ, zero, suc, ◌+◌, ◌*◌, ◌-�
 use mathlib.Core.Option.{some}
 use lib.ListN.{get_elem?}
 use Rattle.std.specs.List.{flat_map}
+use Rattle.buffer_classes.specs.{giver_memo}
+use Rattle.buffer_classes.specs.declared.giver.Giver.{Giver}
+use Rattle.history_spec.specs.{AskedBy, Calls, ClassRest, ClassesRested, class_at}
 use Rattle.history_spec.specs.Rests.{Rest, lost_between}
-use Rattle.trace_replay.specs.Names.{Loss, Round, lines_of, round_ticks, RestsTold}
+use Rattle.report_api.specs.{asks_back}
+use Rattle.trace_replay.specs.Names.{Loss, Parts, Round, Turn, lines_of, round_ticks, RestsTold}
+use Rattle.trace_replay.specs.Past.{WasReleased}
 
 -- the ticks of the turns of the first k rounds
 abbrev pub ticks_before : List Round → ℕ → List ℕ
@@ -17,6 +22,19 @@ rest_by rounds k = record { turns = length (ticks_before rounds k); calls = λ c
 -- the rest after round k
 abbrev pub rest_after : List Round → ℕ → Rest
 rest_after rounds k = rest_by rounds (k + 1)
+
+-- the rest by the first k rounds as the classes knew it, over the calls of all passes and what their givers know at the end
+pub record IsClassRest (config : Parts) (rounds : List Round) (givers : List Giver) (turns : List Turn) (calls : ℕ → Calls) (k : ℕ) (at : ClassRest)
+    : Type 0 where
+  pub rest_is : at.rest ≡ rest_by rounds k
+  pub rested : ClassesRested turns (asks_back givers) at
+  pub asked : AskedBy config calls (asks_back givers) at
+  -- at first all buffers were free
+  pub at_first : (i : ℕ) → k ≡ 0 → at.offered i ≡ (class_at config i).number
+  -- later the giver of each class released the seats of all callers, round by round, and remembers what each had asked and how many were offered
+  pub told : (j i caller : ℕ) (giver : Giver) → k ≡ suc j → get_elem? givers i ≡ some giver → caller < config.callers
+      → WasReleased (giver_memo giver).released (j * config.callers + caller) caller (at.asks caller i) (at.offered i)
+      (take (at.asks caller i) (asks_back givers caller i))
 
 -- how many lines a round has
 abbrev pub lines_in : Round → ℕ

@@ -1,11 +1,15 @@
 -- What stands between two rounds of a replay.
-use Rattle.std.specs.Prelude.{◌≡◌, ℕ, ◌≤◌, ◌<◌, List, length, map}
+use Rattle.std.specs.Prelude.{◌≡◌, ℕ, ◌*◌, ◌≤◌, ◌<◌, List, length, map}
+use mathlib.Core.Option.{some}
+use lib.ListN.{get_elem?}
+use Rattle.buffer_classes.specs.{giver_memo}
+use Rattle.buffer_classes.specs.declared.giver.Giver.{Giver}
 use Rattle.std.specs.List.{AllByRecursion}
 use Rattle.trace_replay.specs.Names.{Traced, IsManagerOf, StaysSo, last_of, rests_of, turns_of, with_rest, Buffer, IsMadeFor, Parts, Turn, queue_positions, Shared}
 use Rattle.text_spec.specs.{last_from, AreTicks}
 use Rattle.report_api.specs.Desks.{desk_memo}
 use Rattle.trace_replay.specs.Past.{IsPast}
-use Rattle.trace_replay.specs.Recording.{IsRecordOf, IsSmallTurn, StillRecords, TurnsAtRest, released_by, tick_of, turns_in}
+use Rattle.trace_replay.specs.Recording.{IsRecordOf, IsSmallTurn, StillRecords, TurnsAtRest, givers_in, released_by, tick_of, turns_in}
 use Rattle.trace_replay.specs.Rests.{as_told, rest_after, rests_before, ticks_before}
 use Rattle.trace_replay.specs.Standing.{AreAtRest, AreFew, MayAllBeAsked, calls_of_each, views_of}
 use Rattle.trace_replay.specs.declared.caller.Caller.{Caller}
@@ -33,6 +37,9 @@ module _ {C : Type 0} (events : C → ℕ) (kept : C → List Buffer) where
     pub rests_are : rests_of r.manager ≡ as_told (rests_before trace.callers trace.rounds k)
     pub last_is : last_of r.manager ≡ last_from 0 (ticks_before trace.rounds k)
     pub count_is : turns_of r.manager ≡ length (ticks_before trace.rounds k)
+    -- each ring's keeper remembers a seat of each caller for each of these rounds
+    pub released_are : length (released_by r) ≡ k * trace.callers
+    pub classes_are : (i : ℕ) (giver : Giver) → get_elem? (givers_in r) i ≡ some giver → length (giver_memo giver).released ≡ k * trace.callers
 
 module _ {C : Type 0} (stands : C → Parts → List Turn → Type 0) (events : C → ℕ) (kept : C → List Buffer) where
   -- the first k rounds were played, and what was gathered is so still
@@ -41,7 +48,7 @@ module _ {C : Type 0} (stands : C → Parts → List Turn → Type 0) (events : 
     pub records : StillRecords stands old new
     -- the rest after each of these rounds is past
     pub pasts : (config : Parts) → IsMadeFor config shared → IsRecordOf stands config old → (j : ℕ) → j < k
-        → IsPast config.ring trace.callers (turns_in new) (released_by new) (rest_after trace.rounds j)
+        → IsPast config trace.callers (j * trace.callers) (turns_in new) (released_by new) (givers_in new) (rest_after trace.rounds j)
 
   -- the manager rested, when its passes had made so many calls
   pub record RestsOnce (calls : List ℕ) (old new : Recorder C) : Type 0 where

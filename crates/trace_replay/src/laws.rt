@@ -3,11 +3,12 @@
 ghost use Rattle.std.specs.Prelude.{ℕ, List, ◌≡◌, ◌+◌, ◌-◌, ◌<◌, ◌≤◌, length};
 ghost use Rattle.buffer_classes.specs.Buffers.{Buffer};
 ghost use Rattle.event_chain.specs.Chained.{Chained};
+ghost use Rattle.history_spec.specs.{ClassRest, entries_between, free_at, from_class, greatest, missing_in, needing, too_many};
 ghost use Rattle.history_spec.specs.Rounds.{Round};
 ghost use Rattle.ids_config.specs.Parts.{Parts};
 ghost use Rattle.main_function.specs.declared.manager.Manager.{Manager};
 ghost use Rattle.text_spec.specs.TraceReading.{AreRounds};
-ghost use Rattle.trace_replay.specs.Replayed.{Gives, IsReplay};
+ghost use Rattle.trace_replay.specs.Replayed.{Gives, IsReplay, IsRestOf};
 ghost use Rattle.trace_replay.specs.{LiesInItsRound, lines_before, lines_in, lost_in};
 ghost use Rattle.trace_text.specs.TraceView.{round_at};
 
@@ -30,4 +31,18 @@ pub fn no_round_loses_what_fits()
     ensures none { (config : Parts) (rounds : List Round) (m : Manager (Chained Buffer)) (gives : Gives) (k : ℕ) →
         IsReplay config rounds m gives → AreRounds config rounds → k < length rounds →
         lines_in (round_at rounds k) ≤ config.ring → lost_in rounds k gives.losses ≡ 0 }
+{}
+
+/// Of the contexts in a round's turns that fit a class, at most so many are missing: for each class, take how many need it
+/// or a larger one, less the buffers of these classes that were free at the rest before the round. The greatest of these is
+/// the bound, and none is missing if each is 0. At the start all are free.
+pub fn no_round_misses_what_fits()
+    ensures most { (config : Parts) (rounds : List Round) (m : Manager (Chained Buffer)) (gives : Gives) (k : ℕ) (first second : ClassRest)
+        (is : IsReplay config rounds m gives) → AreRounds config rounds → k < length rounds → IsRestOf is k first → IsRestOf is (k + 1) second →
+        missing_in config (entries_between gives.turns first second) ≤ greatest (length config.classes) (too_many config gives.turns first second) }
+    ensures none { (config : Parts) (rounds : List Round) (m : Manager (Chained Buffer)) (gives : Gives) (k : ℕ) (first second : ClassRest)
+        (is : IsReplay config rounds m gives) → AreRounds config rounds → k < length rounds → IsRestOf is k first → IsRestOf is (k + 1) second →
+        ((i : ℕ) → i < length config.classes → needing config i (entries_between gives.turns first second)
+        ≤ from_class i (length config.classes) (free_at gives.turns first)) →
+        missing_in config (entries_between gives.turns first second) ≡ 0 }
 {}

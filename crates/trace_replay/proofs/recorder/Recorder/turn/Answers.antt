@@ -9,4 +9,5 @@ returns g c =
       advances = advances c.requires.mine made.0 (rw made.1 at c.in_ok-add.ensures) refl (λ config turns is. is) made.2;
       back_is = made.2.back_is;
       released_is = made.2.released_is;
+      classes_are = record { as_many = made.2.buffers.gave.as_many; each = λ i old new was is. (made.2.buffers.gave.each i old new was is).released_is };
     }

@@ -17,6 +17,7 @@ loop-tick-init g c = record {
   };
   back_is = refl;
   released_is = refl;
+  classes_are = record { as_many = refl; each = λ i old new was is. grind (arith, was, is) };
 }
 
 pub turn-requires-clause-later : goal.turn-requires-clause-later
