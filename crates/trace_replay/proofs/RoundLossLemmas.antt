@@ -4,8 +4,10 @@ use Rattle.buffer_classes.specs.Buffers.{Buffer}
 use Rattle.event_chain.specs.Chained.{Chained}
 use Rattle.main_function.specs.declared.manager.Manager.{Manager}
 use Rattle.history_spec.proofs.LossLemmas.{none_lost}
-use Rattle.history_spec.proofs.RestLemmas.{most as at_most}
-use Rattle.history_spec.specs.{IsLater, Rested, calls_between}
+use Rattle.history_spec.proofs.RestLemmas.{most as at_most, own_round}
+use Rattle.history_spec.specs.{IsLater, Rested, StandsIn, calls_between, turns_between}
+use Rattle.history_spec.specs.Names.{Entry}
+use Rattle.ids_types.specs.Turns.{entries_of}
 use Rattle.trace_replay.proofs.EndLemmas.{all_map}
 use Rattle.trace_replay.proofs.MergeLemmas.{no_lines}
 use Rattle.trace_replay.proofs.RoundLemmas.{ticks_more}
@@ -58,6 +60,13 @@ each_caller config rounds are = all_map (IsAllowedRound config) (λ round. lengt
 -- so the rest after it is later
 pub later_round : (config : Parts) (rounds : List Round) → AreRounds config rounds → (k : ℕ) → k < length rounds → IsLater config.callers (rest_by rounds k) (rest_by rounds (k + 1))
 later_round config rounds are k less = later config.callers rounds (each_caller config rounds are) k less
+
+-- each entry of a round is that of one of its calls
+pub own_lines : (config : Parts) (rounds : List Round) (m : Manager (Chained Buffer)) (gives : Gives) (k : ℕ) → IsReplay config rounds m gives → AreRounds config rounds
+    → k < length rounds → (e : Entry (List ℕ)) → StandsIn (entries_of (turns_between (rest_by rounds k) (rest_by rounds (k + 1)) gives.turns)) e
+    → (length (lines_before rounds k e.caller) ≤ e.call) × (e.call < length (lines_before rounds (k + 1) e.caller))
+own_lines config rounds m gives k is are less = own_round config.ring config.callers gives.turns gives.losses (rest_by rounds k) (rest_by rounds (k + 1))
+    (rested_before config rounds m gives is k less).settled (is.rested k less).settled (later_round config rounds are k less)
 
 -- between two rests at most so many are lost
 pub most : (config : Parts) (rounds : List Round) (m : Manager (Chained Buffer)) (gives : Gives) (k : ℕ) → IsReplay config rounds m gives → AreRounds config rounds

@@ -3,13 +3,15 @@
 ghost use Rattle.std.specs.Prelude.{ℕ, List, ◌≡◌, ◌+◌, ◌-◌, ◌<◌, ◌≤◌, length};
 ghost use Rattle.buffer_classes.specs.Buffers.{Buffer};
 ghost use Rattle.event_chain.specs.Chained.{Chained};
-ghost use Rattle.history_spec.specs.{ClassRest, entries_between, free_at, from_class, greatest, missing_in, needing, too_many};
+ghost use Rattle.history_spec.specs.{ClassRest, StandsIn, entries_between, free_at, from_class, greatest, missing_in, needing, too_many, turns_between};
+ghost use Rattle.history_spec.specs.Names.{Entry};
 ghost use Rattle.history_spec.specs.Rounds.{Round};
 ghost use Rattle.ids_config.specs.Parts.{Parts};
+ghost use Rattle.ids_types.specs.Turns.{entries_of};
 ghost use Rattle.main_function.specs.declared.manager.Manager.{Manager};
 ghost use Rattle.text_spec.specs.TraceReading.{AreRounds};
 ghost use Rattle.trace_replay.specs.Replayed.{Gives, IsReplay, IsRestOf};
-ghost use Rattle.trace_replay.specs.{LiesInItsRound, lines_before, lines_in, lost_in};
+ghost use Rattle.trace_replay.specs.{LiesInItsRound, lines_before, lines_in, lost_in, rest_by};
 ghost use Rattle.trace_text.specs.TraceView.{round_at};
 
 /// Each call of a caller lies between the turn that ended the round before its line's, where there is one, and the
@@ -20,6 +22,14 @@ pub fn a_call_lies_in_its_round()
     ensures { (callers : ℕ) (rounds : List Round) (k caller call : ℕ) → k < length rounds → caller < callers →
         length (lines_before rounds k caller) ≤ call → call < length (lines_before rounds (k + 1) caller) →
         LiesInItsRound callers rounds k caller call }
+{}
+
+/// Each entry of a round's turns is that of a call that a line of this round asks for.
+pub fn an_entry_stands_in_its_round()
+    ensures { (config : Parts) (rounds : List Round) (m : Manager (Chained Buffer)) (gives : Gives) (k : ℕ) →
+        IsReplay config rounds m gives → AreRounds config rounds → k < length rounds → (e : Entry (List ℕ)) →
+        StandsIn (entries_of (turns_between (rest_by rounds k) (rest_by rounds (k + 1)) gives.turns)) e →
+        (length (lines_before rounds k e.caller) ≤ e.call) × (e.call < length (lines_before rounds (k + 1) e.caller)) }
 {}
 
 /// Of the calls of a round at most so many are lost as it has more lines than there are event buffers, and none if it

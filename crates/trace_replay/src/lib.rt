@@ -24,5 +24,8 @@ mod serving;
 mod stage;
 
 pub use gate::{Gate, OpenGate};
-pub use laws::{a_call_lies_in_its_round, no_round_loses_what_fits, no_round_misses_what_fits};
+pub use laws::{
+    a_call_lies_in_its_round, an_entry_stands_in_its_round, no_round_loses_what_fits,
+    no_round_misses_what_fits,
+};
 pub use replaying::{Replayed, RunManager, replay};
