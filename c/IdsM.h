@@ -107,7 +107,8 @@ static inline IdsM_ReturnType IdsM_MainFunction(void)
                           IdsM_SendMessage, NULL, &IdsM_Unit.sent);
 }
 
-/* Makes a last turn, hands out its messages, and frees all. */
+/* Stops the callers, makes a last turn, hands out its messages, and frees all. IDSM_BUSY if a call is still under way: call it
+   again. */
 static inline IdsM_ReturnType IdsM_DeInit(idsm_totals *totals)
 {
     return idsm_close_send(&IdsM_Unit.manager, IDSM_TICK(), IdsM_Unit.messages, sizeof IdsM_Unit.messages,

@@ -90,12 +90,14 @@ static void numbers(void)
         expect("an answer's number", i, is[i]);
     for (unsigned i = 0; i < sizeof modes / sizeof modes[0]; i++)
         expect("a mode's number", i, modes[i]);
-    expect("IDSM_ABI", 2, IDSM_ABI);
-    expect("idsm_abi", 2, idsm_abi());
+    expect("IDSM_ABI", 3, IDSM_ABI);
+    expect("idsm_abi", 3, idsm_abi());
     expect("IDSM_MOST_CALLERS", 32, IDSM_MOST_CALLERS);
     expect("IDSM_MOST_MESSAGE", 1044, IDSM_MOST_MESSAGE);
-    expect("a caller", 8, sizeof(idsm_caller));
-    expect("a manager", 56, sizeof(idsm_manager));
+    expect("a caller", 16, sizeof(idsm_caller));
+    expect("whether it is stopped", 8, offsetof(idsm_caller, stopped));
+    expect("a manager", 64, sizeof(idsm_manager));
+    expect("whether it is stopped", 8, offsetof(idsm_manager, stopped));
     expect("a fault", 12, sizeof(idsm_fault));
     expect("its part", 4, offsetof(idsm_fault, part));
     expect("its place", 8, offsetof(idsm_fault, place));
@@ -108,9 +110,9 @@ static void numbers(void)
     expect("lost events of all", 8, offsetof(idsm_totals, lost_events));
     expect("lost contexts of all", 16, offsetof(idsm_totals, lost_contexts));
     expect("messages of all", 24, offsetof(idsm_totals, messages));
-    expect("a manager's callers", 8, offsetof(idsm_manager, callers));
-    expect("their number", 16, offsetof(idsm_manager, count));
-    expect("a manager's totals", 24, offsetof(idsm_manager, totals));
+    expect("a manager's callers", 16, offsetof(idsm_manager, callers));
+    expect("their number", 24, offsetof(idsm_manager, count));
+    expect("a manager's totals", 32, offsetof(idsm_manager, totals));
     expect("a row", 40, sizeof(idsm_row));
     expect("last", 8, offsetof(idsm_row, last));
     expect("stamp", 16, offsetof(idsm_row, stamp));
@@ -235,7 +237,7 @@ static void no_memory(void)
 {
     static const char LARGE[] = "{\"form\":1,\"instance\":18,\"ring\":1024,\"events\":[{\"id\":42,\"sensor\":3}]}";
     struct rlimit all, none;
-    idsm_caller callers[1] = {{NULL}};
+    idsm_caller callers[1] = {{NULL, 0}};
     static idsm_manager another;
     idsm_fault fault;
     getrlimit(RLIMIT_AS, &all);
@@ -315,7 +317,7 @@ static void refused_turns(void)
 {
     static uint8_t buffer[300];
     idsm_manager *manager = &IdsM_Unit.manager;
-    idsm_manager other = {NULL, NULL, 0, {0, 0, 0, 0}};
+    idsm_manager other = {NULL, 0, NULL, 0, {0, 0, 0, 0}};
     idsm_sent sent;
     idsm_totals totals;
     expect("a tick back", 8, idsm_main(manager, 1, buffer, sizeof buffer, &sent));
@@ -334,6 +336,16 @@ static void refused_turns(void)
     other.at = IdsM_Unit.callers[0].at;
     expect("a caller's turn", 2, idsm_main(&other, tick, buffer, sizeof buffer, &sent));
     expect("a caller's close", 2, idsm_close(&other, tick, buffer, sizeof buffer, &sent, &totals));
+    expect("a caller's last turn", 2, idsm_last(&other, tick, buffer, sizeof buffer, &sent, &totals));
+    expect("a caller's stop", 2, idsm_stop(&other));
+    expect("a caller freed as a manager", 2, idsm_free(&other));
+    expect("a last turn back", 8, idsm_last(manager, 1, buffer, sizeof buffer, &sent, &totals));
+    expect("a last turn without room", 13, idsm_last(manager, tick, NULL, 0, &sent, &totals));
+    expect("a last turn without totals", 15, idsm_last(manager, tick, buffer, sizeof buffer, &sent, NULL));
+    expect("a last turn of NULL", 15, idsm_last(NULL, tick, buffer, sizeof buffer, &sent, &totals));
+    expect("a stop of NULL", 15, idsm_stop(NULL));
+    expect("NULL freed", 15, idsm_free(NULL));
+    expect("a manager freed before its last turn", 16, idsm_free(manager));
     expect("after all these", 0, IdsM_SetSecurityEvent(4100));
     expect_turn("after all these", "1004851004000100 ");
 }
@@ -480,6 +492,55 @@ static void memory(void)
 #endif
 }
 
+/* Callers are stopped, turns go on, a last one is made, the memory is read, and the manager is freed. */
+static void stopping(void)
+{
+    static uint8_t buffer[300];
+    idsm_manager *manager = &IdsM_Unit.manager;
+    idsm_sent sent;
+    idsm_totals totals;
+    idsm_row row;
+    uint8_t context[16] = {0};
+    uint64_t rows;
+    memset(&IdsM_Unit, 0, sizeof IdsM_Unit);
+    tick = 1;
+    expect("a stop of zeros", 1, idsm_stop(manager));
+    expect("zeros freed", 1, idsm_free(manager));
+    expect("the init", 0, IdsM_Init(NULL));
+    running = &IdsM_Unit.callers[0];
+    expect("a report", 0, IdsM_SetSecurityEvent(4100));
+    expect("the stop", 0, idsm_stop(manager));
+    expect("a second stop", 0, idsm_stop(manager));
+    expect("a stopped caller", 17, IdsM_SetSecurityEvent(4100));
+    expect("its state", 17, IdsM_BswM_StateChanged(1));
+    expect("its mode", 17, IdsM_SetReportingMode(42, 1));
+    expect("a turn back", 0, idsm_main(manager, 5, buffer, sizeof buffer, &sent));
+    expect("what it took", 1, sent.entries);
+    expect("a last turn back", 8, idsm_last(manager, 4, buffer, sizeof buffer, &sent, &totals));
+    expect("a caller that is stopped still", 17, IdsM_SetSecurityEvent(4100));
+    expect("the last turn", 0, idsm_last(manager, 6, buffer, sizeof buffer, &sent, &totals));
+    expect("its entries", 0, sent.entries);
+    expect("totals.entries", 1, totals.entries);
+    expect("totals.lost_events", 0, totals.lost_events);
+    expect("a caller then", 17, IdsM_SetSecurityEvent(4100));
+    expect("a turn then", 17, idsm_main(manager, 7, buffer, sizeof buffer, &sent));
+    expect("another last turn", 17, idsm_last(manager, 7, buffer, sizeof buffer, &sent, &totals));
+    expect("a close then", 17, idsm_close(manager, 7, buffer, sizeof buffer, &sent, &totals));
+    expect("a stop then", 17, idsm_stop(manager));
+    expect("its records", 0, idsm_rows(manager, &rows));
+#ifndef STAND_IN
+    expect("their number", 1, rows);
+    expect("the first", 0, idsm_row_at(manager, 0, context, sizeof context, &row));
+    expect("its event", 4100, row.id);
+#else
+    expect("no record", 10, idsm_row_at(manager, 0, context, sizeof context, &row));
+#endif
+    expect("the manager freed", 0, idsm_free(manager));
+    expect("a freed manager", 17, idsm_rows(manager, &rows));
+    expect("freed again", 17, idsm_free(manager));
+    memset(&IdsM_Unit, 0, sizeof IdsM_Unit);
+}
+
 static void closing(void)
 {
     IdsM_VersionInfoType info;
@@ -488,7 +549,7 @@ static void closing(void)
     size_t count = 9;
     uint64_t number;
     expect("the version", 0, IdsM_GetVersionInfo(&info));
-    expect("its numbers", 10020200, info.vendorID * 10000000u + info.moduleID * 10000u + info.sw_major_version * 100u +
+    expect("its numbers", 10020300, info.vendorID * 10000000u + info.moduleID * 10000u + info.sw_major_version * 100u +
            info.sw_minor_version + info.sw_patch_version);
     expect("the version at NULL", 15, IdsM_GetVersionInfo(NULL));
     expect("a last report", 0, IdsM_SetSecurityEvent(4100));
@@ -545,6 +606,7 @@ int main(void)
     modes();
     memory();
     closing();
+    stopping();
     printf("%d checks, %d failed\n", checks, failures);
     return failures == 0 ? 0 : 1;
 }

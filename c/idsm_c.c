@@ -41,7 +41,7 @@ static uint8_t take(void **at, word *own)
             return IDSM_BUSY;
         if (has == CLOSED)
             return IDSM_CLOSED;
-    } while (!__atomic_compare_exchange_n(at, &has, IN_CALL, 0, __ATOMIC_ACQUIRE, __ATOMIC_RELAXED));
+    } while (!__atomic_compare_exchange_n(at, &has, IN_CALL, 0, __ATOMIC_SEQ_CST, __ATOMIC_RELAXED));
     own->at = has;
     return IDSM_DONE;
 }
@@ -63,9 +63,21 @@ static void give(void **at, void *has)
     __atomic_store_n(at, has, __ATOMIC_RELEASE);
 }
 
+/* Takes the handle of a caller that is not stopped. A stop marks each caller and then looks at its handle; this takes the
+   handle and then looks at the mark. All four steps are in one order, so one of the two sees the other. A stopped caller's
+   handle is left alone by calls that begin later: so whoever wants all handles has them soon. */
 static uint8_t take_caller(idsm_caller *caller, word *own)
 {
-    return caller == NULL ? IDSM_NULL : take(&caller->at, own);
+    if (caller == NULL)
+        return IDSM_NULL;
+    if (__atomic_load_n(&caller->stopped, __ATOMIC_RELAXED) != 0)
+        return IDSM_CLOSED;
+    uint8_t answer = take(&caller->at, own);
+    if (__atomic_load_n(&caller->stopped, __ATOMIC_SEQ_CST) == 0)
+        return answer;
+    if (answer == IDSM_DONE)
+        give(&caller->at, own->at);
+    return answer == IDSM_DONE || answer == IDSM_BUSY ? IDSM_CLOSED : answer;
 }
 
 static uint8_t take_manager(idsm_manager *manager, word *own)
@@ -324,12 +336,36 @@ static uint8_t turn(idsm_manager *manager, word *own, uint64_t tick, uint8_t *bu
     return answer;
 }
 
+/* How far a manager is: its callers may call, they are stopped, its last turn was made. Only who has its handle writes it. */
+enum { RUNNING, STOPPED, ENDED };
+
+static uint32_t state_of(const idsm_manager *manager)
+{
+    return __atomic_load_n(&manager->stopped, __ATOMIC_RELAXED);
+}
+
+static void set_state(idsm_manager *manager, uint32_t state)
+{
+    __atomic_store_n(&manager->stopped, state, __ATOMIC_RELAXED);
+}
+
+/* Takes the handle of a manager that may make turns. */
+static uint8_t take_running(idsm_manager *manager, word *own)
+{
+    uint8_t answer = take_manager(manager, own);
+    if (answer == IDSM_DONE && state_of(manager) == ENDED) {
+        give(&manager->at, own->at);
+        return IDSM_CLOSED;
+    }
+    return answer;
+}
+
 /* Makes a turn and hands out its messages, all before the handle is given back: so no other turn writes over them. */
 static uint8_t main_turn(idsm_manager *manager, uint64_t tick, uint8_t *buffer, size_t bytes, route out,
                          idsm_sent *sent)
 {
     word own;
-    uint8_t answer = take_manager(manager, &own);
+    uint8_t answer = take_running(manager, &own);
     if (answer != IDSM_DONE)
         return answer;
     answer = turn(manager, &own, tick, buffer, bytes, sent);
@@ -403,6 +439,48 @@ uint8_t idsm_snapshot(idsm_manager *manager, idsm_row *rows, size_t most, uint8_
     return answer;
 }
 
+/* Takes the handle of a manager that may make turns, and not that of a caller, which has no callers. */
+static uint8_t take_with_callers(idsm_manager *manager, word *own)
+{
+    uint64_t room;
+    uint8_t answer = take_running(manager, own);
+    if (answer != IDSM_DONE)
+        return answer;
+    answer = idsm_raw_buffer_size(own, &room);
+    if (answer != IDSM_DONE)
+        give(&manager->at, own->at);
+    return answer;
+}
+
+/* Stops all callers of a manager, or lets them call again. */
+static void mark_callers(idsm_manager *manager, uint32_t stopped)
+{
+    for (size_t i = 0; i < manager->count; i++)
+        __atomic_store_n(&manager->callers[i].stopped, stopped, __ATOMIC_SEQ_CST);
+}
+
+/* Whether no call of a caller is under way. */
+static uint8_t are_all_idle(const idsm_manager *manager)
+{
+    for (size_t i = 0; i < manager->count; i++)
+        if (__atomic_load_n(&manager->callers[i].at, __ATOMIC_SEQ_CST) == IN_CALL)
+            return IDSM_BUSY;
+    return IDSM_DONE;
+}
+
+uint8_t idsm_stop(idsm_manager *manager)
+{
+    word own;
+    uint8_t answer = take_with_callers(manager, &own);
+    if (answer != IDSM_DONE)
+        return answer;
+    set_state(manager, STOPPED);
+    mark_callers(manager, 1);
+    answer = are_all_idle(manager);
+    give(&manager->at, own.at);
+    return answer;
+}
+
 /* Takes all callers of a manager, or none. */
 static uint8_t take_callers(idsm_manager *manager, word *words)
 {
@@ -426,45 +504,49 @@ static void leave_callers(idsm_manager *manager, word *words, int frees)
         give(&manager->callers[i].at, frees ? CLOSED : words[i].at);
 }
 
-/* Makes a last turn with all callers in hand, frees them, and hands out its messages. */
+/* Makes a last turn with all callers in hand, frees them, and hands out its messages. The callers are stopped first, so that
+   none is told that its own handle is busy. */
 static uint8_t last_turn(idsm_manager *manager, word *own, uint64_t tick, uint8_t *buffer, size_t bytes, route out,
-                         idsm_sent *sent)
-{
-    word words[IDSM_MOST_CALLERS];
-    uint64_t room;
-    /* A caller has no such number, and no callers. */
-    uint8_t answer = idsm_raw_buffer_size(own, &room);
-    if (answer == IDSM_DONE)
-        answer = take_callers(manager, words);
-    if (answer != IDSM_DONE)
-        return answer;
-    answer = turn(manager, own, tick, buffer, bytes, sent);
-    leave_callers(manager, words, answer == IDSM_DONE);
-    if (answer == IDSM_DONE)
-        hand_out(out, buffer, sent);
-    return answer;
-}
-
-static uint8_t close_all(idsm_manager *manager, uint64_t tick, uint8_t *buffer, size_t bytes, route out,
                          idsm_sent *sent, idsm_totals *totals)
 {
-    word own;
-    uint8_t answer = take_manager(manager, &own);
-    if (answer != IDSM_DONE)
-        return answer;
-    answer = last_turn(manager, &own, tick, buffer, bytes, out, sent);
+    word words[IDSM_MOST_CALLERS];
+    mark_callers(manager, 1);
+    uint8_t answer = take_callers(manager, words);
     if (answer != IDSM_DONE) {
-        give(&manager->at, own.at);
+        set_state(manager, STOPPED);
         return answer;
     }
+    answer = turn(manager, own, tick, buffer, bytes, sent);
+    leave_callers(manager, words, answer == IDSM_DONE);
+    if (answer != IDSM_DONE) {
+        if (state_of(manager) == RUNNING)
+            mark_callers(manager, 0);
+        return answer;
+    }
+    set_state(manager, ENDED);
     *totals = manager->totals;
-    free_all(&own, 1);
-    give(&manager->at, CLOSED);
+    hand_out(out, buffer, sent);
     return IDSM_DONE;
 }
 
-uint8_t idsm_close(idsm_manager *manager, uint64_t tick, uint8_t *buffer, size_t bytes, idsm_sent *sent,
-                   idsm_totals *totals)
+/* Makes a last turn, and then gives the manager back, or frees it. */
+static uint8_t end(idsm_manager *manager, uint64_t tick, uint8_t *buffer, size_t bytes, route out, idsm_sent *sent,
+                   idsm_totals *totals, int frees)
+{
+    word own;
+    uint8_t answer = take_with_callers(manager, &own);
+    if (answer != IDSM_DONE)
+        return answer;
+    answer = last_turn(manager, &own, tick, buffer, bytes, out, sent, totals);
+    if (answer == IDSM_DONE && frees)
+        free_all(&own, 1);
+    give(&manager->at, answer == IDSM_DONE && frees ? CLOSED : own.at);
+    return answer;
+}
+
+/* The same, with what it told at nothing first. */
+static uint8_t end_telling(idsm_manager *manager, uint64_t tick, uint8_t *buffer, size_t bytes, idsm_sent *sent,
+                           idsm_totals *totals, int frees)
 {
     static const idsm_sent nothing = {0, 0, 0, 0, 0};
     static const idsm_totals none = {0, 0, 0, 0};
@@ -473,14 +555,56 @@ uint8_t idsm_close(idsm_manager *manager, uint64_t tick, uint8_t *buffer, size_t
         return IDSM_NULL;
     *sent = nothing;
     *totals = none;
-    return close_all(manager, tick, buffer, bytes, nowhere, sent, totals);
+    return end(manager, tick, buffer, bytes, nowhere, sent, totals, frees);
+}
+
+/* The same, with its messages handed out. */
+static uint8_t end_sending(idsm_manager *manager, uint64_t tick, uint8_t *buffer, size_t bytes, route out,
+                           idsm_sent *sent, idsm_totals *totals, int frees)
+{
+    if (sent == NULL || totals == NULL || out.send == NULL || is_no_memory(buffer, bytes))
+        return IDSM_NULL;
+    return end(manager, tick, buffer, bytes, out, sent, totals, frees);
+}
+
+uint8_t idsm_last(idsm_manager *manager, uint64_t tick, uint8_t *buffer, size_t bytes, idsm_sent *sent,
+                  idsm_totals *totals)
+{
+    return end_telling(manager, tick, buffer, bytes, sent, totals, 0);
+}
+
+uint8_t idsm_last_send(idsm_manager *manager, uint64_t tick, uint8_t *buffer, size_t bytes, idsm_send *send, void *to,
+                       idsm_sent *sent, idsm_totals *totals)
+{
+    route out = {send, to};
+    return end_sending(manager, tick, buffer, bytes, out, sent, totals, 0);
+}
+
+uint8_t idsm_free(idsm_manager *manager)
+{
+    word own;
+    uint64_t room;
+    uint8_t answer = take_manager(manager, &own);
+    if (answer != IDSM_DONE)
+        return answer;
+    answer = idsm_raw_buffer_size(&own, &room);
+    if (answer == IDSM_DONE && state_of(manager) != ENDED)
+        answer = IDSM_BUSY;
+    if (answer == IDSM_DONE)
+        free_all(&own, 1);
+    give(&manager->at, answer == IDSM_DONE ? CLOSED : own.at);
+    return answer;
+}
+
+uint8_t idsm_close(idsm_manager *manager, uint64_t tick, uint8_t *buffer, size_t bytes, idsm_sent *sent,
+                   idsm_totals *totals)
+{
+    return end_telling(manager, tick, buffer, bytes, sent, totals, 1);
 }
 
 uint8_t idsm_close_send(idsm_manager *manager, uint64_t tick, uint8_t *buffer, size_t bytes, idsm_send *send, void *to,
                         idsm_sent *sent, idsm_totals *totals)
 {
     route out = {send, to};
-    if (sent == NULL || totals == NULL || send == NULL || is_no_memory(buffer, bytes))
-        return IDSM_NULL;
-    return close_all(manager, tick, buffer, bytes, out, sent, totals);
+    return end_sending(manager, tick, buffer, bytes, out, sent, totals, 1);
 }

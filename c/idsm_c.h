@@ -10,7 +10,7 @@ extern "C" {
 #endif
 
 /* The number of this interface. Structs and numbers never change under one number, and a new call is a new name. */
-#define IDSM_ABI 2
+#define IDSM_ABI 3
 
 /* What each call answers. */
 #define IDSM_DONE 0
@@ -30,7 +30,7 @@ extern "C" {
 #define IDSM_OCCUPIED 14     /* a handle has something already */
 #define IDSM_NULL 15         /* a pointer is NULL that may not be */
 #define IDSM_BUSY 16         /* another call works with the handle; nothing was done */
-#define IDSM_CLOSED 17       /* the manager was closed */
+#define IDSM_CLOSED 17       /* the callers were stopped, or the manager was closed; nothing was done */
 
 /* Reporting modes. */
 #define IDSM_MODE_OFF 0
@@ -46,6 +46,7 @@ extern "C" {
 /* The handle of a caller. Zeros before idsm_init; never copied, moved or written by C after that. */
 typedef struct {
     void *at;
+    uint32_t stopped;
 } idsm_caller;
 
 /* What all turns of a manager told. */
@@ -59,6 +60,7 @@ typedef struct {
 /* The handle of a manager. Zeros before idsm_init; never copied, moved or written by C after that. */
 typedef struct {
     void *at;
+    uint32_t stopped;
     idsm_caller *callers;
     size_t count;
     idsm_totals totals;
@@ -143,8 +145,25 @@ uint8_t idsm_snapshot(idsm_manager *manager, idsm_row *rows, size_t most, uint8_
 /* How many context data buffers of a class wait. */
 uint8_t idsm_late(idsm_manager *manager, uint8_t class_index, uint64_t *late);
 
-/* Makes a last turn, which takes all that was reported, and frees the callers and the manager. Each call on one of them
-   then answers IDSM_CLOSED. Where it answers anything but IDSM_DONE, nothing was done. */
+/* Stops the callers of a manager for good: a call that begins after it answers IDSM_CLOSED and is in no total. IDSM_DONE says
+   that no call of them is under way any more, IDSM_BUSY that one is, or one of the manager: ask again. */
+uint8_t idsm_stop(idsm_manager *manager);
+
+/* Makes a last turn, which takes all that was reported, and frees the callers. The totals are those of all turns. What the
+   manager keeps can still be read, and a turn answers IDSM_CLOSED. IDSM_BUSY if a call of a caller is under way: the callers
+   are stopped then, so a later try comes through. At any other answer but IDSM_DONE no turn was made, and callers that were
+   not stopped before may call again. */
+uint8_t idsm_last(idsm_manager *manager, uint64_t tick, uint8_t *buffer, size_t bytes, idsm_sent *sent,
+                  idsm_totals *totals);
+
+/* The same, with the last turn's messages handed out as by idsm_main_send. */
+uint8_t idsm_last_send(idsm_manager *manager, uint64_t tick, uint8_t *buffer, size_t bytes, idsm_send *send, void *to,
+                       idsm_sent *sent, idsm_totals *totals);
+
+/* Frees a manager that made its last turn; IDSM_BUSY if it did not. */
+uint8_t idsm_free(idsm_manager *manager);
+
+/* idsm_last and idsm_free in one: each call on a handle then answers IDSM_CLOSED. */
 uint8_t idsm_close(idsm_manager *manager, uint64_t tick, uint8_t *buffer, size_t bytes, idsm_sent *sent,
                    idsm_totals *totals);
 

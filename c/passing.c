@@ -245,6 +245,12 @@ static void no_bytes(void)
     in_snapshot = 0;
 }
 
+/* Lets stopped callers call again, which no program may. */
+static void resume(void)
+{
+    callers[0].stopped = callers[1].stopped = manager.stopped = 0;
+}
+
 /* What an interrupt meets on a handle whose call it interrupts, and on the others. */
 static void interrupts(void)
 {
@@ -258,6 +264,9 @@ static void interrupts(void)
     expect("a state meanwhile", 16, idsm_set_state(callers, 0));
     expect("a mode meanwhile", 16, idsm_set_mode(callers, 0, 0));
     expect("a close meanwhile", 16, idsm_close(&manager, 1, buffer, 8, &sent, &totals));
+    expect("a report after it", 17, idsm_set_event(callers, 0));
+    expect("a stop meanwhile", 16, idsm_stop(&manager));
+    expect("a last turn meanwhile", 16, idsm_last(&manager, 1, buffer, 8, &sent, &totals));
     expect("an init meanwhile", 14, idsm_init(buffer, 1, callers, 2, &manager, &fault));
     expect("a number meanwhile", 0, idsm_rows(&manager, &number));
     meanwhile = own;
@@ -272,7 +281,7 @@ static void interrupts_other(void)
     meanwhile = NULL;
     expect("a close while another works", 16, idsm_close(&manager, 1, buffer, 8, &sent, &totals));
     expect("its totals", 0, totals.entries + totals.lost_events + totals.lost_contexts + totals.messages);
-    expect("the first caller then", 0, idsm_set_event(callers, 0));
+    expect("the first caller then", 17, idsm_set_event(callers, 0));
     meanwhile = own;
 }
 
@@ -401,7 +410,7 @@ static void sends(void)
     answer = IDSM_TICK_BACK;
     expect("a refused turn", 8, idsm_main_send(&manager, 9, sending, 25, keep, &sink, &sent));
     expect("its tick and buffer", 35, given[0] + bytes_given + (bytes_at == sending));
-    expect("a refused size of a close", 8, idsm_close_send(&manager, 9, sending, 25, keep, &sink, &sent, &totals));
+    expect("a refused close", 8, idsm_close_send(&manager, 9, sending, 25, keep, &sink, &sent, &totals));
     expect("what they sent", 0, sink.count);
     expect("what they told", 9, sent.bytes & sent.messages & totals.entries & totals.messages);
     answer = IDSM_DONE;
@@ -443,7 +452,7 @@ int main(void)
     expect("its bytes", 0, bytes_given);
     sends();
     memset(callers, 0, sizeof callers);
-    manager.at = NULL;
+    memset(&manager, 0, sizeof manager);
     answer = 0;
     meanwhile = interrupts_init;
     expect("an init", 0, idsm_init(buffer, 3, callers, 2, &manager, &fault));
@@ -456,8 +465,12 @@ int main(void)
     no_bytes();
     meanwhile = interrupts;
     expect("an interrupted report", 0, idsm_set_event(callers, 0));
+    expect("the stop after it", 0, idsm_stop(&manager));
+    resume();
     meanwhile = interrupts_other;
     expect("another interrupted report", 0, idsm_set_event(&callers[1], 500));
+    meanwhile = NULL;
+    resume();
     expect("a snapshot without room", 13, idsm_snapshot(&manager, rows, 1, buffer, 4, &count));
     expect("what it wants", 2, count);
     meanwhile = interrupts_turn;
