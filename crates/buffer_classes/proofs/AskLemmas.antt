@@ -1,8 +1,6 @@
 -- What a claim that asks one class after another leaves at each.
-use Rattle.buffer_classes.proofs.Names.{◌≡◌, ℕ, suc, ◌+◌, ◌≤◌, ◌⊎◌, List, [], ◌∷◌, ◌++◌, length, refl, arith, inl, inr, append-nil, Asks, ClaimTells, asked, lost_at, Lost, Outcome, SeatMemo, at_length, if◌then◌else◌, ◌==◌, nat_tests, some, none, get_elem?, ⊎_elim, there}
+use Rattle.buffer_classes.proofs.Names.{GotBuffer, NoneFree, ◌≡◌, ℕ, suc, ◌+◌, ◌≤◌, ◌⊎◌, List, [], ◌∷◌, ◌++◌, length, refl, arith, inl, inr, append-nil, Asks, ClaimTells, asked, lost_at, Lost, Outcome, SeatMemo, at_length, if◌then◌else◌, ◌==◌, nat_tests, some, none, get_elem?, ⊎_elim, there, Claim}
 use Rattle.std.proofs.lemmas.Bool.{cases_lt}
-use Rattle.buffer_classes.specs.declared.seat.Claim.{Claim}
-use Rattle.buffer_classes.specs.declared.seat.Claim.TheVariants as claims
 
 -- a place of a list has an element, or is past its end
 pub below_or : {A : Type 0} (l : List A) (i : ℕ) → ((a : A) × (get_elem? l i ≡ some a)) ⊎ (length l ≤ i)
@@ -26,9 +24,9 @@ lost_more first g next i (x ∷ looks) many = grind (arith, nat_tests, lost_more
 
 -- past the classes nothing was asked
 pub asked_past : (first i : ℕ) (sizes : List ℕ) (result : Claim) → ClaimTells first sizes result → length sizes ≤ i → asked first result i ≡ []
-asked_past first i sizes (claims.Got buf skipped) told past =
+asked_past first i sizes (GotBuffer buf skipped) told past =
     grind (arith, nat_tests, told, at_length sizes buf.class buf.size told.1, lost_past first i skipped)
-asked_past first i sizes (claims.NoneFree looks) told past = lost_past first i looks (omega (arith, told, past))
+asked_past first i sizes (NoneFree looks) told past = lost_past first i looks (omega (arith, told, past))
 
 -- the log after a class was asked
 pub asks_log : (limit : ℕ) (old new : SeatMemo) (calls : List Outcome) → Asks limit old calls new → new.log ≡ old.log ++ calls

@@ -1,6 +1,5 @@
 -- Lists whose elements are changed one after another.
-use Rattle.buffer_classes.proofs.Names.{◌≡◌, ◌≢◌, ℕ, ◌+◌, ◌<◌, ◌≤◌, List, [], ◌∷◌, ◌++◌, set, length, refl, ◌∙◌, ap, arith, append_assoc, length_push, length-set, at_last, at_longer, at_set, at_length, there, some, get_elem?}
-use Rattle.buffer_classes.specs.ByIndex.{AllOf}
+use Rattle.buffer_classes.proofs.Names.{◌≡◌, ◌≢◌, ℕ, ◌+◌, ◌<◌, ◌≤◌, List, [], ◌∷◌, ◌++◌, set, length, refl, ◌∙◌, ap, arith, append_assoc, length_push, length-set, at_last, at_longer, at_set, at_length, there, some, get_elem?, AllOf}
 
 module _ {A : Type 0} where
   -- below one place it is so related, and from there on it is the same

@@ -1,10 +1,6 @@
 -- A claim from class to class.
-use Rattle.buffer_classes.proofs.Names.{◌≡◌, ◌≢◌, ℕ, ◌+◌, ◌-◌, ◌*◌, ◌<◌, ◌≤◌, ◌^◌, List, [], ◌∷◌, ◌++◌, length, set, get_or, ◌∙◌, arith, inl, inr, All, append-nil, length_push, at_index, at_length, at_map, there, ring_seats, ring_terms, seat_calls, seat_memo, Buffer, IsBufferOf, AllOf, Asks, AsksClass, ClaimTells, asked, lost_at, RiseFrom, class_sizes, first_fitting, Class, ClassSeat, Lost, Got, Outcome, IsClaimSeatOf, IsClassSeat, claimant_of, claims_of, log_of, memo_at, steps_of, Classes, ClaimSeat, refl, nat_tests, some, get_elem?, sum_by-set, vec_capacity}
+use Rattle.buffer_classes.proofs.Names.{GotBuffer, NoneFree, ◌≡◌, ◌≢◌, ℕ, ◌+◌, ◌-◌, ◌*◌, ◌<◌, ◌≤◌, ◌^◌, List, [], ◌∷◌, ◌++◌, length, set, get_or, ◌∙◌, arith, inl, inr, All, append-nil, length_push, at_index, at_length, at_map, there, ring_seats, ring_terms, seat_calls, seat_memo, Buffer, IsBufferOf, AllOf, Asks, AsksClass, ClaimTells, asked, lost_at, RiseFrom, class_sizes, first_fitting, Class, ClassSeat, Lost, Got, Outcome, IsClaimSeatOf, IsClassSeat, claimant_of, claims_of, log_of, memo_at, steps_of, Classes, ClaimSeat, refl, nat_tests, some, get_elem?, sum_by-set, vec_capacity, AreSmall, HoldsSoMany, finish_of, got_of, Claim}
 use Rattle.std.proofs.lemmas.List.Elements.{All-push}
-use Rattle.buffer_classes.specs.Claims.{AreSmall, HoldsSoMany, finish_of}
-use Rattle.permit_ring.specs.Logs.{got_of}
-use Rattle.buffer_classes.specs.declared.seat.Claim.{Claim}
-use Rattle.buffer_classes.specs.declared.seat.Claim.TheVariants as answers
 use Rattle.buffer_classes.proofs.AskLemmas.{asked_past, asks_log, below_or, lost_more, lost_past, nothing_past}
 use Rattle.buffer_classes.proofs.ByIndexLemmas.{all_more}
 use Rattle.buffer_classes.proofs.FittingLemmas.{fits_from, many_sizes}
@@ -12,8 +8,8 @@ use Rattle.buffer_classes.proofs.FittingLemmas.{fits_from, many_sizes}
 -- a buffer that a claim got holds as much as was asked for
 holds_so : (bytes : ℕ) (sizes : List ℕ) (result : Claim) → RiseFrom 0 sizes → ClaimTells (first_fitting bytes sizes) sizes result
     → HoldsSoMany bytes result
-holds_so bytes sizes (answers.Got buf skipped) rise told = (fits_from bytes 0 buf.class buf.size sizes rise told.1).1 (omega (arith, told.0))
-holds_so bytes sizes (answers.NoneFree looks) rise told = tt
+holds_so bytes sizes (GotBuffer buf skipped) rise told = (fits_from bytes 0 buf.class buf.size sizes rise told.1).1 (omega (arith, told.0))
+holds_so bytes sizes (NoneFree looks) rise told = tt
 
 -- the seat of class i made these calls, and is the same where it made none
 abbrev pub AskedSo : Classes → (ℕ → List Outcome) → ℕ → ClassSeat → ClassSeat → Type 0
@@ -134,11 +130,11 @@ module _ {classes : Classes} {me : ClaimSeat} (mine : IsClaimSeatOf classes me) 
 
       -- it gave a buffer
       pub got : (buf : Buffer) → AsksClass class seat (Got buf.claim tt ∷ []) new → IsBufferOf (ring_terms class.ring) buf → buf.claim ≤ 2 ^ 45
-          → Leaves (answers.Got buf looks) after
+          → Leaves (GotBuffer buf looks) after
       got buf did its small =
           let size = at_map (λ (class : Class). class.size) classes.classes.items place class class_there in
-          let told : ClaimTells first sizes (answers.Got buf looks) = grind (arith, mine.are.terms place class class_there, size, its, l.many) in
-          let done = asks_more (Got buf.claim tt) (asked first (answers.Got buf looks)) did (grind (arith, nat_tests, told.0, l.many))
+          let told : ClaimTells first sizes (GotBuffer buf looks) = grind (arith, mine.are.terms place class class_there, size, its, l.many) in
+          let done = asks_more (Got buf.claim tt) (asked first (GotBuffer buf looks)) did (grind (arith, nat_tests, told.0, l.many))
           (grind (arith, nat_tests, told.0, l.many)) in
-          leaves (answers.Got buf looks) after (number ∙ l.number_is) (claims ∙ l.claims_are) (room ∙ l.room_is) done.0 told (small, l.small)
+          leaves (GotBuffer buf looks) after (number ∙ l.number_is) (claims ∙ l.claims_are) (room ∙ l.room_is) done.0 told (small, l.small)
           (omega (arith, done.1, l.many, below, l.asked.as_many, mine.all, many_sizes classes))

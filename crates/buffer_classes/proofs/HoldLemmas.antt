@@ -1,11 +1,5 @@
 -- A claimant whose seats are held one after another, and go on one after another.
-use Rattle.buffer_classes.proofs.Names.{◌≡◌, ℕ, ◌+◌, ◌<◌, List, length, set, None, ap, sym, ◌∙◌, arith, get_elem?, some, vec_capacity, there, at_length, seat_memo, giver_memo, memo_at, AllOf, Freed, Giver, Class, Classes, ClassSeat, ClaimSeat, SeatMemo, IsBufferOf, IsHisSeat, IsClaimSeatOf}
-use Rattle.std.specs.Prelude.{Some}
-use mathlib.Core.Option.{some-injective}
-use Rattle.atomic_table.proofs.Lists.{set_here, set_else}
-use Rattle.permit_ring.proofs.{rested_ordered}
-use Rattle.permit_ring.specs.{IsHeldAs, IsSeatOf, ended, first_back, resumed, seat_ticket}
-use Rattle.buffer_classes.specs.{Frees, IsHeldClaimant, IsHisHeld}
+use Rattle.buffer_classes.proofs.Names.{◌≡◌, ℕ, ◌+◌, ◌<◌, List, length, set, None, ap, sym, ◌∙◌, arith, get_elem?, some, vec_capacity, there, at_length, seat_memo, giver_memo, memo_at, AllOf, Freed, Giver, Class, Classes, ClassSeat, ClaimSeat, SeatMemo, IsBufferOf, IsHisSeat, IsClaimSeatOf, Some, some-injective, set_here, set_else, rested_ordered, IsHeldAs, IsSeatOf, ended, first_back, resumed, seat_ticket, Frees, IsHeldClaimant, IsHisHeld}
 use Rattle.buffer_classes.proofs.ByIndexLemmas.{Below, all_more}
 
 -- a seat is held now, as it was

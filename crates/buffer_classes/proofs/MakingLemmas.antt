@@ -1,6 +1,5 @@
 -- Classes that are made one after another.
-use Rattle.buffer_classes.proofs.Names.{◌≡◌, ℕ, suc, ◌<◌, List, [], ◌∷◌, ◌++◌, length, take, sym, ◌∙◌, ap, arith, length-map, length_push, map_push, at_end, at_length, there, ClassSpec, IsNewSeat, seat_memo, new_memo, IsBufferOf, AllOf, AreClasses, RiseFrom, class_sizes, givers_of, AreNewClasses, GetsOne, GetsSeat, IsNewClaimant, IsNewClass, spec_sizes, Class, ClassSeat, IsHisSeat, Classes, Giver, Givers, ClaimSeat, IsGiverOf, some, new_ordered, get_elem?, vec_capacity}
-use Rattle.buffer_classes.specs.{IsNewGiver}
+use Rattle.buffer_classes.proofs.Names.{◌≡◌, ℕ, suc, ◌<◌, List, [], ◌∷◌, ◌++◌, length, take, sym, ◌∙◌, ap, arith, length-map, length_push, map_push, at_end, at_length, there, ClassSpec, IsNewSeat, seat_memo, new_memo, IsBufferOf, AllOf, AreClasses, RiseFrom, class_sizes, givers_of, AreNewClasses, GetsOne, GetsSeat, IsNewClaimant, IsNewClass, spec_sizes, Class, ClassSeat, IsHisSeat, Classes, Giver, Givers, ClaimSeat, IsGiverOf, some, new_ordered, get_elem?, vec_capacity, IsNewGiver}
 use Rattle.buffer_classes.proofs.FittingLemmas.{many_sizes}
 
 -- sizes that rise do so up to any place

@@ -1,7 +1,6 @@
 -- Buffers that are put one after another.
-use Rattle.buffer_classes.proofs.Names.{◌≡◌, ℕ, ◌+◌, cond, ◌==◌, List, [], ◌∷◌, ◌++◌, ◌∙◌, ap, arith, set, length, length-append, append_assoc, Giver, Buffer, AllOf, OffersAll, GaveBack, class_count, Begins, Offers, Puts, filled_count, giver_memo, eq-zero-or-pos, inl, inr, nat_tests, some, only_reaps, end_steps, gave_of, get_elem?, sum_by_push}
+use Rattle.buffer_classes.proofs.Names.{◌≡◌, ℕ, ◌+◌, cond, ◌==◌, List, [], ◌∷◌, ◌++◌, ◌∙◌, ap, arith, set, length, length-append, append_assoc, Giver, Buffer, AllOf, OffersAll, GaveBack, class_count, Begins, Offers, Puts, filled_count, giver_memo, eq-zero-or-pos, inl, inr, nat_tests, some, only_reaps, end_steps, gave_of, get_elem?, sum_by_push, offer_keeps_settled}
 use Rattle.buffer_classes.proofs.ByIndexLemmas.{all_more}
-use Rattle.permit_ring.proofs.Settled.{offer_keeps_settled}
 
 -- those of the class that are not left were put
 pub record PutsSome (all left : List Buffer) (i : ℕ) (old new : Giver) : Type 0 where

@@ -1,7 +1,6 @@
 -- Lists whose elements were changed at their places.
-use Rattle.std.specs.Prelude.{◌≡◌, ℕ, List, length}
-use mathlib.Core.Option.{some}
-use lib.ListN.{get_elem?}
+use Rattle.std.specs.Prelude.{◌≡◌}
+use Rattle.buffer_classes.specs.Names.{ℕ, List, length, some, get_elem?}
 
 -- at each place, what stands there now is so related to what stood there
 pub record AllOf {A : Type 0} (R : ℕ → A → A → Type 0) (olds news : List A) : Type 0 where

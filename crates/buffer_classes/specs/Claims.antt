@@ -1,20 +1,15 @@
 -- What a claim does at each class: it asks the fitting ones from the smallest on, until one has a buffer free.
-use Rattle.std.specs.Prelude.{◌≡◌, ℕ, suc, ◌+◌, ◌*◌, ◌≤◌, ◌==◌, if◌then◌else◌, List, [], ◌∷◌, length, Option, Some, None, Result, Ok, Err, ⊤, ◌^◌, All}
-use mathlib.Core.Option.{some}
-use lib.ListN.{get_elem?}
+use Rattle.std.specs.Prelude.{◌≡◌, ◌+◌, ◌*◌, ◌≤◌, ◌==◌, if◌then◌else◌, ◌∷◌, ◌^◌}
+use Rattle.buffer_classes.specs.Names.{Claim, GotBuffer, NoneFree, ℕ, suc, List, [], length, Option, Some, None, Result, Ok, Err, ⊤, All, some, get_elem?, ring_seats, seat_calls, seat_memo, seat_number, finishes, got_of, Class, ClassSeat, Lost, Got, Outcome, SeatMemo}
 use Rattle.ids_types.specs.declared.names.Ticket.{Ticket}
 use Rattle.permit_ring.specs.Calls as ring
-use Rattle.permit_ring.specs.{ring_seats, seat_calls, seat_memo, seat_number, finishes, got_of}
 use Rattle.buffer_classes.specs.Buffers.{Buffer, found_full}
-use Rattle.buffer_classes.specs.Names.{Class, ClassSeat, Lost, Got, Outcome, SeatMemo}
 use Rattle.buffer_classes.specs.Seats.{IsClassSeat}
-use Rattle.buffer_classes.specs.declared.seat.Claim.{Claim}
-use Rattle.buffer_classes.specs.declared.seat.Claim.TheVariants as claims
 
 -- what a claim gave that got this buffer, or none, after these looks
 abbrev pub claim_with : Option Buffer → List ℕ → Claim
-claim_with (Some buf) looks = claims.Got buf looks
-claim_with None looks = claims.NoneFree looks
+claim_with (Some buf) looks = GotBuffer buf looks
+claim_with None looks = NoneFree looks
 
 -- the ticket of a number
 abbrev pub ticket : ℕ → Ticket
@@ -27,8 +22,8 @@ lost_at first (claimed ∷ looks) i = if i == first then Lost claimed ∷ [] els
 
 -- what became of the calls at class i of a claim that asked from this class on
 abbrev pub asked : ℕ → Claim → ℕ → List Outcome
-asked first (claims.Got buf skipped) i = if i == buf.class then Got buf.claim tt ∷ [] else lost_at first skipped i
-asked first (claims.NoneFree looks) i = lost_at first looks i
+asked first (GotBuffer buf skipped) i = if i == buf.class then Got buf.claim tt ∷ [] else lost_at first skipped i
+asked first (NoneFree looks) i = lost_at first looks i
 
 -- what that did to the seat of a class: a call that was lost, or that got a ticket and finished it at once
 abbrev pub Asks : ℕ → SeatMemo → List Outcome → SeatMemo → Type 0
@@ -53,20 +48,20 @@ outcome_of (Err claimed) = Lost claimed ∷ []
 
 -- one look for each fitting class that was asked in vain, and then a buffer of the next class, or none where no class is left
 abbrev pub ClaimTells : ℕ → List ℕ → Claim → Type 0
-ClaimTells first sizes (claims.Got buf skipped) = (first + length skipped ≡ buf.class) × (get_elem? sizes buf.class ≡ some buf.size)
-ClaimTells first sizes (claims.NoneFree looks) = first + length looks ≡ length sizes
+ClaimTells first sizes (GotBuffer buf skipped) = (first + length skipped ≡ buf.class) × (get_elem? sizes buf.class ≡ some buf.size)
+ClaimTells first sizes (NoneFree looks) = first + length looks ≡ length sizes
 
 -- a claim that got a buffer made one step more than those that asked for it
 abbrev pub finish_of : Claim → ℕ
-finish_of (claims.Got buf skipped) = 1
-finish_of (claims.NoneFree looks) = 0
+finish_of (GotBuffer buf skipped) = 1
+finish_of (NoneFree looks) = 0
 
 -- no claim has a number above 2^45
 abbrev pub AreSmall : Claim → Type 0
-AreSmall (claims.Got buf skipped) = (buf.claim ≤ 2 ^ 45) × All (λ claimed. claimed ≤ 2 ^ 45) skipped
-AreSmall (claims.NoneFree looks) = All (λ claimed. claimed ≤ 2 ^ 45) looks
+AreSmall (GotBuffer buf skipped) = (buf.claim ≤ 2 ^ 45) × All (λ claimed. claimed ≤ 2 ^ 45) skipped
+AreSmall (NoneFree looks) = All (λ claimed. claimed ≤ 2 ^ 45) looks
 
 -- a buffer that was got holds so many bytes
 abbrev pub HoldsSoMany : ℕ → Claim → Type 0
-HoldsSoMany bytes (claims.Got buf skipped) = bytes ≤ buf.size
-HoldsSoMany bytes (claims.NoneFree looks) = ⊤
+HoldsSoMany bytes (GotBuffer buf skipped) = bytes ≤ buf.size
+HoldsSoMany bytes (NoneFree looks) = ⊤

@@ -1,9 +1,6 @@
 -- The classes of context data buffers: their sizes rise, and each is a ring.
-use Rattle.std.specs.Prelude.{◌≡◌, ℕ, suc, ◌<◌, ◌≤◌, nat_lt, if◌then◌else◌, List, [], ◌∷◌, length, map, ⊤}
-use mathlib.Core.Option.{some}
-use lib.ListN.{get_elem?}
-use Rattle.permit_ring.specs.Seats.{ring_terms}
-use Rattle.buffer_classes.specs.Names.{Class, Classes, ClassTerms}
+use Rattle.std.specs.Prelude.{◌≡◌, ◌<◌, ◌≤◌, if◌then◌else◌, ◌∷◌}
+use Rattle.buffer_classes.specs.Names.{ℕ, suc, nat_lt, List, [], length, map, ⊤, some, get_elem?, ring_terms, Class, Classes, ClassTerms}
 
 -- the sizes of the classes, in order
 abbrev pub class_sizes : Classes → List ℕ

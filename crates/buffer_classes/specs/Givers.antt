@@ -1,16 +1,10 @@
 -- Those who give the buffers of all classes back.
-use Rattle.std.specs.Prelude.{◌≡◌, ℕ, ◌+◌, ◌<◌, ◌≤◌, ◌==◌, List, ◌++◌, count_by, length, Some, vec_capacity}
-use mathlib.Core.Option.{Option, some, none}
-use lib.ListN.{get_elem?}
-use Rattle.permit_ring.specs.{ReapsToEnd, OffersAll, AreAllBack, IsSettled, AllAdmitted, first_back}
-use Rattle.buffer_classes.specs.declared.giver.Giver.{Giver}
-use Rattle.buffer_classes.specs.declared.givers.Givers.{Givers}
+use Rattle.std.specs.Prelude.{◌≡◌, ◌+◌, ◌<◌, ◌≤◌, ◌==◌, ◌++◌}
+use Rattle.buffer_classes.specs.Names.{Maybe, some, none, ℕ, List, count_by, length, Some, vec_capacity, get_elem?, ReapsToEnd, OffersAll, AreAllBack, IsSettled, AllAdmitted, first_back, Giver, Givers, Class, Classes, ClassSeat, SeatMemo, ClaimSeat}
 use Rattle.buffer_classes.specs.Buffers.{Buffer}
 use Rattle.buffer_classes.specs.Classes.{AreClasses}
 use Rattle.buffer_classes.specs.Giving.{Accounts, ClassMemo, Frees, IsFilledUp, IsGiverOf, Takes, filled_count, giver_memo, late_count}
-use Rattle.buffer_classes.specs.Names.{Class, Classes, ClassSeat, SeatMemo}
 use Rattle.buffer_classes.specs.Seats.{IsHeldClaimant}
-use Rattle.buffer_classes.specs.declared.seat.ClaimSeat.{ClaimSeat}
 
 -- the giver of each class
 abbrev pub givers_of : Givers → List Giver
@@ -38,7 +32,7 @@ abbrev pub class_count : ℕ → List Buffer → ℕ
 class_count i bufs = count_by (λ (b : Buffer). b.class == i) bufs
 
 -- how many buffers are late where there is a giver
-abbrev pub late_at : Option Giver → ℕ
+abbrev pub late_at : Maybe Giver → ℕ
 late_at none = 0
 late_at (some g) = late_count g
 

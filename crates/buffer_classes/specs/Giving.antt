@@ -1,12 +1,7 @@
 -- How the buffers of one class are given back.
-use Rattle.std.specs.Prelude.{◌≡◌, ℕ, ◌+◌, ◌<◌, ◌≤◌, ◌⊎◌, List, ◌++◌, length, vec_capacity}
-use mathlib.Core.Option.{some}
-use lib.ListN.{get_elem?}
-use Rattle.permit_ring.specs.declared.ring.Ring.{Ring}
-use Rattle.permit_ring.specs.{ReapsToEnd, OffersAll, AreAllBack, IsSettled, AllAdmitted, Releases, IsKeeperOf, keeper_memo, seat_memo, vacant_of, filled_of, ring_positions, ring_seats, ring_terms, welcomes}
-use Rattle.buffer_classes.specs.declared.giver.Giver.{Giver}
+use Rattle.std.specs.Prelude.{◌≡◌, ◌+◌, ◌<◌, ◌≤◌, ◌⊎◌, ◌++◌}
+use Rattle.buffer_classes.specs.Names.{ℕ, List, length, vec_capacity, some, get_elem?, Ring, ReapsToEnd, OffersAll, AreAllBack, IsSettled, AllAdmitted, Releases, IsKeeperOf, keeper_memo, seat_memo, vacant_of, filled_of, ring_positions, ring_seats, ring_terms, welcomes, Giver, ClassSeat, ClassTerms, KeeperMemo}
 use Rattle.buffer_classes.specs.Buffers.{Buffer, IsBufferOf}
-use Rattle.buffer_classes.specs.Names.{ClassSeat, ClassTerms, KeeperMemo}
 
 -- what the keeper of a class remembers
 abbrev pub ClassMemo : Type 0

@@ -1,18 +1,12 @@
 -- Classes that have just been made.
-use Rattle.std.specs.Prelude.{◌≡◌, ℕ, ◌<◌, ◌≤◌, List, [], ◌∷◌, ◌++◌, length, map, vec_capacity}
-use mathlib.Core.Option.{some}
-use lib.ListN.{get_elem?}
+use Rattle.std.specs.Prelude.{◌≡◌, ◌<◌, ◌≤◌, ◌∷◌, ◌++◌}
+use Rattle.buffer_classes.specs.Names.{ℕ, List, [], length, map, vec_capacity, some, get_elem?, AllAdmitted, AreNewSeats, IsUntouched, ring_terms, seat_memo, new_memo, Class, Classes, ClassSeat, Giver, Givers, ClaimSeat}
 use Rattle.ids_types.specs.declared.class_spec.ClassSpec.{ClassSpec}
-use Rattle.permit_ring.specs.{AllAdmitted, AreNewSeats, IsUntouched, ring_terms, seat_memo, new_memo}
 use Rattle.buffer_classes.specs.Buffers.{IsBufferOf}
 use Rattle.buffer_classes.specs.Classes.{RiseFrom, class_sizes, class_terms}
 use Rattle.buffer_classes.specs.Givers.{AreGiversOf, givers_of}
 use Rattle.buffer_classes.specs.Giving.{IsGiverOf, filled_count, giver_memo, late_count, vacant_count}
-use Rattle.buffer_classes.specs.Names.{Class, Classes, ClassSeat}
 use Rattle.buffer_classes.specs.Seats.{IsClaimSeatOf, claimant_of, claims_of, log_of}
-use Rattle.buffer_classes.specs.declared.giver.Giver.{Giver}
-use Rattle.buffer_classes.specs.declared.givers.Givers.{Givers}
-use Rattle.buffer_classes.specs.declared.seat.ClaimSeat.{ClaimSeat}
 
 -- the size and the number of a class are in range
 pub record IsSpec (spec : ClassSpec) : Type 0 where

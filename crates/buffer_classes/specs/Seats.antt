@@ -1,13 +1,8 @@
 -- One who claims buffers: a seat at the ring of each class, idle between two claims.
-use Rattle.std.specs.Prelude.{◌≡◌, ℕ, ◌≤◌, List, length, sum_by, None, vec_capacity}
-use mathlib.Core.Option as maybe
-use mathlib.Core.Option.{some, none}
-use lib.ListN.{get_elem?}
-use Rattle.permit_ring.specs.{IsHeldAs, IsOrdered, IsSeatOf, seat_calls, seat_memo, seat_number, seat_ticket, new_memo}
+use Rattle.std.specs.Prelude.{◌≡◌, ◌≤◌}
+use Rattle.buffer_classes.specs.Names.{Maybe, ℕ, List, length, sum_by, None, vec_capacity, some, none, get_elem?, IsHeldAs, IsOrdered, IsSeatOf, seat_calls, seat_memo, seat_number, seat_ticket, new_memo, Class, Classes, ClassSeat, Outcome, SeatMemo, ClaimSeat}
 use Rattle.buffer_classes.specs.Buffers.{IsBufferOf}
 use Rattle.buffer_classes.specs.Classes.{AreClasses}
-use Rattle.buffer_classes.specs.Names.{Class, Classes, ClassSeat, Outcome, SeatMemo}
-use Rattle.buffer_classes.specs.declared.seat.ClaimSeat.{ClaimSeat}
 
 -- the claimant's number, and how many claims it has made
 abbrev pub claimant_of : ClaimSeat → ℕ
@@ -21,7 +16,7 @@ abbrev pub steps_of : ClaimSeat → ℕ
 steps_of seat = sum_by (λ (s : ClassSeat). length (seat_memo s).moves) seat.seats.items
 
 -- what a seat knows, where there is one
-abbrev pub memo_in : maybe.Option ClassSeat → SeatMemo
+abbrev pub memo_in : Maybe ClassSeat → SeatMemo
 memo_in none = new_memo 0
 memo_in (some seat) = seat_memo seat
 

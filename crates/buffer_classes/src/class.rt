@@ -1,6 +1,6 @@
 //! The classes of context data buffers, each a ring of its own.
 ghost use Rattle.std.specs.Prelude.{◌≡◌};
-ghost use Rattle.buffer_classes.specs.Classes.{class_sizes, first_fitting};
+ghost use Rattle.buffer_classes.specs.{class_sizes, first_fitting, IsBufferOf, no_note, admits_all};
 
 use crate::buffer::CtxBuf;
 use permit_ring::{Freight, Ring};
@@ -17,8 +17,6 @@ pub struct ClassTerms {
 pub struct Buffers;
 
 impl Freight for Buffers {
-    ghost use Rattle.buffer_classes.specs.Buffers.{IsBufferOf, no_note, admits_all};
-
     type Offered = CtxBuf;
 
     type Finished = ();

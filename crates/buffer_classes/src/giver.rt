@@ -1,8 +1,6 @@
 //! The one who gives the buffers of one class back.
-ghost use Rattle.std.specs.Prelude.{◌≡◌, ◌<◌, None};
-ghost use Rattle.permit_ring.specs.Seats.{IsHeldAs, IsNextHeld, IsSeatOf, filled_of, ring_terms, seat_memo, seat_ticket, vacant_of};
-ghost use Rattle.permit_ring.specs.Steps.{ended};
-ghost use Rattle.buffer_classes.specs.{IsBufferOf, Begins, FillsLate, Frees, IsFilledUp, IsGiverOf, Offers, Puts, ReapsAll, Takes, giver_memo, late_count};
+ghost use Rattle.std.specs.Prelude.{◌≡◌, ◌<◌};
+ghost use Rattle.buffer_classes.specs.{None, IsHeldAs, IsNextHeld, IsSeatOf, filled_of, ring_terms, seat_memo, seat_ticket, vacant_of, ended, IsBufferOf, Begins, FillsLate, Frees, IsFilledUp, IsGiverOf, Offers, Puts, ReapsAll, Takes, giver_memo, late_count};
 
 use crate::buffer::CtxBuf;
 use crate::class::Buffers;

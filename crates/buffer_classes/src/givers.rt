@@ -1,7 +1,6 @@
 //! Those who give the buffers of all classes back.
-ghost use Rattle.std.specs.Prelude.{◌≡◌, ◌<◌, [], length, vec_capacity};
-ghost use Rattle.buffer_classes.specs.{AllOf, class_sizes, AreBuffersIn, AreGiversOf, Freed, GaveBack, Welcomed, givers_of, late_of, memo_at, IsClaimSeatOf, IsHeldClaimant, IsNextClaimant};
-ghost use Rattle.permit_ring.specs.Steps.{ended};
+ghost use Rattle.std.specs.Prelude.{◌≡◌, ◌<◌};
+ghost use Rattle.buffer_classes.specs.{[], length, vec_capacity, AllOf, class_sizes, AreBuffersIn, AreGiversOf, Freed, GaveBack, Welcomed, givers_of, late_of, memo_at, IsClaimSeatOf, IsHeldClaimant, IsNextClaimant, ended};
 
 use crate::buffer::CtxBuf;
 use crate::class::Classes;

@@ -1,7 +1,6 @@
 //! How the classes are made, with those who give their buffers back and those who claim them.
-ghost use Rattle.std.specs.Prelude.{◌≡◌, ◌<◌, ◌≤◌, length, IfOk};
-ghost use Rattle.permit_ring.specs.Hands.{AllAdmitted};
-ghost use Rattle.buffer_classes.specs.{IsBufferOf, AllOf, class_terms, AreNewClasses, AreSpecs, AreUnseated, GetsSeat, HasRoom, IsNewClass, IsSpec};
+ghost use Rattle.std.specs.Prelude.{◌≡◌, ◌<◌, ◌≤◌};
+ghost use Rattle.buffer_classes.specs.{length, IfOk, AllAdmitted, IsBufferOf, AllOf, class_terms, AreNewClasses, AreSpecs, AreUnseated, GetsSeat, HasRoom, IsNewClass, IsSpec};
 
 use crate::buffer::CtxBuf;
 use crate::class::{Buffers, Class, ClassTerms, Classes};

@@ -1,9 +1,6 @@
 //! One who claims context data buffers.
-ghost use Rattle.std.specs.Prelude.{◌≡◌, [], ℕ, ◌+◌, ◌-◌, ◌*◌, ◌++◌, ◌<◌, ◌≤◌, ◌^◌, length, IfErr, IfOk};
-ghost use mathlib.Core.Option.{some};
-ghost use lib.ListN.{get_elem?};
-ghost use Rattle.permit_ring.specs.Seats.{ring_seats, ring_terms, seat_calls};
-ghost use Rattle.buffer_classes.specs.{IsBufferOf, AreSmall, Asks, AsksClass, asked, claim_with, finish_of, outcome_of, ClaimTells, HoldsSoMany, class_sizes, first_fitting, Class as ClassValue, IsClassSeat, IsClaimSeatOf, claimant_of, claims_of, log_of, memo_at, steps_of};
+ghost use Rattle.std.specs.Prelude.{◌≡◌, ◌+◌, ◌-◌, ◌*◌, ◌++◌, ◌<◌, ◌≤◌, ◌^◌};
+ghost use Rattle.buffer_classes.specs.{[], ℕ, length, IfErr, IfOk, some, get_elem?, ring_seats, ring_terms, seat_calls, IsBufferOf, AreSmall, Asks, AsksClass, asked, claim_with, finish_of, outcome_of, ClaimTells, HoldsSoMany, class_sizes, first_fitting, Class as ClassValue, IsClassSeat, IsClaimSeatOf, claimant_of, claims_of, log_of, memo_at, steps_of};
 
 use crate::buffer::CtxBuf;
 use crate::class::{Buffers, Class, Classes};

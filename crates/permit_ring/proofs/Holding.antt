@@ -1,13 +1,7 @@
 -- A seat that is held leaves an empty token, and one that is released goes on with a new one: both keep the rule.
-use Rattle.permit_ring.proofs.Names.{◌≡◌, ◌≢◌, ℕ, zero, suc, ◌<◌, ◌≤◌, true, false, cond, eqb, List, [], ◌∷◌, ◌++◌, set, length, Option, Some, None, append-nil, append_assoc, GoesOn, refl, sym, ◌∙◌, ap, inl, inr, le_refl, eq-eqb, ne_eqb, arith, ⊎_elim, common_steps, length-set, State, Splits, at_set, at_snoc, set_here, set_else, at_longer, at_last, Machine, opening, after, seat_at, with_seat, resume_next, holders_stay, seat_at-here, seat_at-else, SeatView, Resume, Key, KeeperMemo, Lost, Move, Rest, SeatMemo, Slot, View, Sits, Keeps, Spent, rest_left, rest_right, release_left, release_right, IsSeatMemo, IsOrdered, SeesRests, Runs, and_move, first_back, resumes, resumed, get_elem?, some}
+use Rattle.permit_ring.proofs.Names.{◌≡◌, ◌≢◌, ℕ, zero, suc, ◌<◌, ◌≤◌, true, false, cond, eqb, List, [], ◌∷◌, ◌++◌, set, length, Option, Some, None, append-nil, append_assoc, GoesOn, refl, sym, ◌∙◌, ap, le_refl, eq-eqb, ne_eqb, arith, ⊎_elim, common_steps, length-set, State, Splits, at_set, at_snoc, set_here, set_else, set_again, at_longer, at_last, Machine, opening, seat_at, with_seat, holders_stay, seat_at-here, seat_at-else, SeatView, Resume, Key, KeeperMemo, Lost, Move, Rest, SeatMemo, Slot, View, Sits, Keeps, Spent, release_left, release_right, IsSeatMemo, IsOrdered, Runs, and_move, first_back, resumes, resumed, get_elem?, some, next_of_possible}
 use Rattle.permit_ring.proofs.ListLemmas.{at_end, at_length}
 use Rattle.permit_ring.proofs.States.{fates_stay, slots_stay, keeper_port, not_first, ring_of, leads_on, by_seat-on, by_keeper-on}
-
--- what is put where it stands changes nothing
-set_same : {A : Type 0} (l : List A) (i : ℕ) (a : A) → get_elem? l i ≡ some a → set l i a ≡ l
-set_same [] i a e = refl
-set_same (x ∷ l) zero a e = grind arith
-set_same {A = A} (x ∷ l) (suc i) a e = ap (λ (l : List A). x ∷ l) (set_same l i a e)
 
 -- the first seat that is back stands among those that are
 pub first_at : {N : Type 0} (back : List (Option (SeatMemo N))) (memo : SeatMemo N) → first_back back ≡ Some memo
@@ -60,8 +54,8 @@ module _ {O D T N : Type 0} {note : D → N} {Ao : T → O → Type 0} {An : T �
 
 module _ {O D T N : Type 0} (note : D → N) (Ao : T → O → Type 0) (An : T → N → Type 0) (key : Key T) where
   -- the keeper may make a token that knows nothing
-  pub blanks_allowed : (id : ℕ) (v : View T N) → Splits (Runs note Ao An key) id v (rest_left v) (rest_right v)
-  blanks_allowed id v s r at = rw (set_same s.views id v at) record {
+  pub blanks_allowed : (id : ℕ) (v : View T N) → Splits (Runs note Ao An key) id v v Spent
+  blanks_allowed id v s r at = rw (set_again s.views id v at) record {
     sizes = r.sizes;
     machine = r.machine;
     moves = r.moves;
@@ -116,7 +110,7 @@ module _ {O D T N : Type 0} (note : D → N) (Ao : T → O → Type 0) (An : T �
         machine = now;
         moves = moves;
         reached = leads_on (opening key.positions key.limit) m now r.moves (Resume memo.number) r.reached
-            (resume_next m memo.number made (grind (arith, its)));
+            (next_of_possible m (Resume memo.number) (grind (arith, common_steps, its, made)));
         words_are = r.words_are;
         fates = r.fates;
         keeper = resumes memo r.keeper;

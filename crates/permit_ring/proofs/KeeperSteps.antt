@@ -1,10 +1,7 @@
 -- Each step of the keeper keeps the rule: no seat changes, and no claim.
-use Rattle.permit_ring.proofs.Names.{◌≡◌, ◌≢◌, ℕ, zero, suc, ◌+◌, ◌-◌, ◌%◌, ◌^◌, ◌<◌, ◌≤◌, true, false, eqb, List, [], ◌∷◌, set, length, drop, slice_index, sum, Option, Some, refl, sym, ◌∙◌, ap, ap₂, le_refl, mod-lt, arith, ⊎_elim, cases_eq, length_push, set-get_or, fold_push, at_set, at_longer, set_here, set_else, State, Act, Valid, step, keeps, takes, gives, chain, put_back, rest, carried_after, homes_after, Allows, SeatView, Step, See, Read, Offer, Sweep, Key, KeeperMemo, SeatMemo, Move, Slot, Offered, Finished, View, Keeps, hand_from, filled_then, AllAdmitted, found_at, is_of_seat, is_of_keeper, KeepsInHand, Known, IsWord, ready, saw_mark, read_word, tried_offer, swept_loss, words_of, StandsIn, AreSlots, Counts, IsSeatMemo, Runs, and_move, waits, reaps, reads, offers_all, misses, sweeps, Machine, HasSizes, opening, seat_at, mark_at, next, offered_to, IsRing, packed, small, see_takes_next, see_waits_next, read_next, sweep_next, offer_takes_next, offer_misses_next, word_packs, seen_packs, missed_field_falls, next_keeps, other_word, packed_apart, eq-eqb, ne_eqb, PermitWord, ◌++◌, get_elem?, some, none, add-mod_right}
-use mathlib.Core.Option as maybe
+use Rattle.permit_ring.proofs.Names.{◌≡◌, ◌≢◌, ℕ, zero, suc, ◌+◌, ◌-◌, ◌%◌, ◌^◌, ◌<◌, ◌≤◌, true, false, eqb, List, [], ◌∷◌, set, length, drop, slice_index, sum, Option, Some, refl, sym, ◌∙◌, ap, ap₂, le_refl, mod-lt, arith, ⊎_elim, cases_eq, length_push, set-get_or, fold_push, at_set, at_longer, set_here, set_else, State, Act, Valid, step, keeps, takes, gives, chain, put_back, rest, carried_after, homes_after, Allows, SeatView, Step, See, Read, Offer, Sweep, Key, KeeperMemo, SeatMemo, Move, Slot, Offered, Finished, View, Keeps, hand_from, filled_then, AllAdmitted, found_at, is_of_seat, is_of_keeper, KeepsInHand, Known, IsWord, ready, saw_mark, read_word, tried_offer, swept_loss, words_of, StandsIn, AreSlots, Counts, IsSeatMemo, Runs, and_move, waits, reaps, reads, offers_all, misses, sweeps, Machine, HasSizes, opening, seat_at, mark_at, next, offered_to, IsRing, packed, small, see_takes_next, see_waits_next, offer_takes_next, offer_misses_next, word_packs, seen_packs, missed_field_falls, next_keeps, other_word, packed_apart, eq-eqb, ne_eqb, PermitWord, ◌++◌, get_elem?, some, none, add-mod_right, swept_of, loss_at, after, Maybe, next_of_possible, lt-ltb}
 use prog.Atomic.{either}
 use Rattle.permit_ring.proofs.HandLemmas.{ready_is}
-use Rattle.permit_ring.specs.Closing.{swept_of}
-use Rattle.ring_core.specs.{loss_at, after}
 use Rattle.permit_ring.proofs.ListLemmas.{at_end, at_length}
 use Rattle.permit_ring.proofs.SeatSteps.{number_is, number_reads, read_back, word_packs_here}
 use Rattle.permit_ring.proofs.Settled.{all_marks, not_over, settled, some_there, more_fronts}
@@ -20,7 +17,7 @@ module _ {S : Type 0} where
   gives_all zero = keeps
   gives_all (suc j) = chain gives (gives_all j)
 
-  gives_valid : (j : ℕ) (homes : List (maybe.Option S)) (hand : List (ℕ × S)) → Valid homes hand (gives_all j)
+  gives_valid : (j : ℕ) (homes : List (Maybe S)) (hand : List (ℕ × S)) → Valid homes hand (gives_all j)
   gives_valid zero homes hand = tt
   gives_valid (suc j) homes hand = (tt, gives_valid j (put_back homes hand) (rest hand))
 
@@ -33,7 +30,7 @@ module _ {S : Type 0} where
 
 module _ {O D N : Type 0} {note : D → N} {Admits : O → Type 0} {n : ℕ} {fates : List (Option (ℕ × N))} where
   -- the slots after all that are filled again are given back
-  slots_offered : (ys : List O) (vacant : ℕ) (m : Machine) {now : Machine} (homes : List (maybe.Option (Slot O D)))
+  slots_offered : (ys : List O) (vacant : ℕ) (m : Machine) {now : Machine} (homes : List (Maybe (Slot O D)))
       → now.reaped ≡ m.reaped → now.word.claimed ≡ m.word.claimed → now.offered ≡ m.offered + length ys
       → AllAdmitted Admits ys → m.reaped ≤ m.word.claimed → m.word.claimed ≤ m.offered → now.offered ≤ m.reaped + n
       → length fates ≡ m.word.claimed → AreSlots note Admits m fates n homes
@@ -71,7 +68,7 @@ module _ {O D T N : Type 0} (note : D → N) (Ao : T → O → Type 0) (An : T �
       counts : Counts key.positions now k
 
     -- so it keeps the rule, where the words and the slots are those of the state after
-    keeper_steps : (step : Step) {found : ℕ} {now : Machine} {k : KeeperMemo N} {words : List ℕ} {homes : List (maybe.Option (Slot O D))}
+    keeper_steps : (step : Step) {found : ℕ} {now : Machine} {k : KeeperMemo N} {words : List ℕ} {homes : List (Maybe (Slot O D))}
         → next r.machine step ≡ Some now → found ≡ found_at r.machine step → words ≡ words_of now
         → AreSlots note (Ao key.terms) now r.fates key.positions homes → IsKeepers step found now k
         → Runs note Ao An key record { words = words; homes = homes; views = set s.views 0 (Keeps key k) }
@@ -152,7 +149,7 @@ module _ {O D T N : Type 0} (note : D → N) (Ao : T → O → Type 0) (An : T �
         let words = set-get_or s.words 0 0 ∙ r.words_are in
         let k : KeeperMemo N = reads key.limit r.machine.word r.keeper in
         let counted = r.knows.counted in
-        let runs = keeper_steps r Read {found = packed key.limit r.machine.word} {k = k} (read_next r.machine) (cc ((sizes_of r).limit_is)) words (slots_stay refl refl refl r.are_slots) (assumption) in
+        let runs = keeper_steps r Read {found = packed key.limit r.machine.word} {k = k} (next_of_possible r.machine Read refl) (cc ((sizes_of r).limit_is)) words (slots_stay refl refl refl r.are_slots) (assumption) in
         rw (p.0, p.1, read_back r) (Keeps key k, keeps, tt, runs, (number_reads r, refl, is_word (ring_of r) (sizes_of r) (over_few r), omega (arith, (ring_of r).permits))))
 
     -- its sweep of a kind of loss
@@ -167,7 +164,7 @@ module _ {O D T N : Type 0} (note : D → N) (Ao : T → O → Type 0) (An : T �
         let words : set s.words (kind + 1) 0 ≡ words_of (after m (Sweep kind)) = grind (arith, r.words_are) in
         let more = fold_push ◌+◌ 0 (swept_of kind r.keeper) found in
         let its : IsKeepers r (Sweep kind) found (after m (Sweep kind)) k = grind (arith, more, r.knows) in
-        let runs = keeper_steps r (Sweep kind) {k = k} (sweep_next m kind low) read words
+        let runs = keeper_steps r (Sweep kind) {k = k} (next_of_possible m (Sweep kind) (lt-ltb kind 2 low)) read words
         (slots_stay (grind arith) (grind arith) (grind arith) r.are_slots) its in
         let few : sum (swept_of kind k) ≤ 2 ^ 45 = grind (arith, small m (ring_of r), (ring_of r).loss0, (ring_of r).loss1, more, read, r.knows.counted) in
         let one : kind + 1 - 1 ≡ kind = omega arith in

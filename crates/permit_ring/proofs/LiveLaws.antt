@@ -1,12 +1,7 @@
 -- What a call and a turn find at a live ring, from the state before each move.
-use Rattle.permit_ring.proofs.Names.{◌≡◌, ◌≢◌, ℕ, zero, suc, ◌+◌, ◌-◌, ◌%◌, ◌<◌, ◌≤◌, ◌⊎◌, true, false, List, [], ◌∷◌, take, drop, refl, inl, inr, arith, common_steps, mod-lt, cases_eq, SeatView, Option, Some, None, Machine, HasSizes, IsRing, Holds, seat_at, mark_at, opening, opens, after, word_packs, unpacked-packed, same_position, Move, found_at, Leads, get_elem?, some, Key, State, Slot, View, Runs}
-use Rattle.std.proofs.lemmas.List.{take-take}
-use Rattle.std.proofs.lemmas.Bool.{cases_Bool}
-use Rattle.ring_core.proofs.SeatLemmas.{one_ticket}
-use Rattle.ring_core.specs.declared.seat.Ticket0.{Ticket0}
+use Rattle.permit_ring.proofs.Names.{◌≡◌, ◌≢◌, ℕ, zero, suc, ◌+◌, ◌-◌, ◌%◌, ◌<◌, ◌≤◌, ◌⊎◌, true, false, List, [], ◌∷◌, take, drop, refl, inl, inr, arith, common_steps, mod-lt, cases_eq, SeatView, Option, Some, None, Machine, HasSizes, IsRing, Holds, seat_at, mark_at, opening, after, word_packs, unpacked-packed, same_position, Move, found_at, Leads, get_elem?, some, Key, State, Slot, View, Runs, take-take, cases_Bool, one_ticket, Ticket0, after_moves, finds_none, finds_unready, AllTakenOrHeld, state_before, HasGivenBack, left_and_since}
 use Rattle.permit_ring.proofs.Orders.{all_counted}
-use Rattle.permit_ring.proofs.States.{led_keeps}
-use Rattle.permit_ring.specs.Live.{after_moves, finds_none, finds_unready, AllTakenOrHeld, state_before, HasGivenBack, left_and_since}
+use Rattle.permit_ring.proofs.States.{led_on}
 
 -- moves lead through the state after the first p of them
 through : (m now : Machine) (moves : List Move) (p : ℕ) → Leads m moves now
@@ -75,12 +70,7 @@ module _ {O D T N : Type 0} {note : D → N} {Ao : T → O → Type 0} {An : T �
 
   -- the state before each move is that of a ring of the ring's sizes
   ring_before : (p : ℕ) → IsRing (before p) × HasSizes key.positions key.limit (before p)
-  ring_before p =
-      let led = led_keeps first (before p) (take p r.moves)
-      (opens key.positions key.limit r.sizes.some_position r.sizes.most_positions r.sizes.some_seat r.sizes.most_seats)
-      (λ full. absurd (omega (arith, full, r.sizes.some_position)))
-      (through first r.machine r.moves p r.reached).0 in
-      (led.0, led.1)
+  ring_before p = let led = led_on r (before p) (take p r.moves) (through first r.machine r.moves p r.reached).0 in (led.0, led.1)
 
   -- what is free, what was left and what was claimed since are all positions
   account : (z p : ℕ) → z ≤ p → HasGivenBack key r.moves z p → (before p).word.free + left_and_since key r.moves z p ≡ key.positions

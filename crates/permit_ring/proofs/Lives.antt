@@ -1,5 +1,5 @@
 -- Splits and joins keep the rule: the keeper makes one more seat, or takes one back.
-use Rattle.permit_ring.proofs.Names.{◌≡◌, ◌≢◌, ℕ, ◌+◌, ◌<◌, true, false, cond, eqb, List, [], ◌∷◌, ◌++◌, set, length, Some, None, GoesOn, refl, sym, ◌∙◌, ap, inl, inr, le_refl, eq-eqb, ne_eqb, arith, ⊎_elim, common_steps, length-append, length-set, State, Joins, Splits, at_set, set_here, set_else, at_longer, at_last, Machine, opening, new_seat, after, seat_at, is_idle, with_seat, split_next, join_next, SameHolders, holders_stay_push, live_is_made, holders_stay, seat_at-here, seat_at-else, SeatView, Split, Join, Key, KeeperMemo, Move, SeatMemo, Slot, View, Sits, Keeps, Spent, Leads, by_seat, by_keeper, join_both, join_spent, split_left, split_right, IsSeatMemo, Runs, and_move, ended, new_memo, makes, welcomes, get_elem?, some}
+use Rattle.permit_ring.proofs.Names.{◌≡◌, ◌≢◌, ℕ, ◌+◌, ◌<◌, true, false, cond, eqb, List, [], ◌∷◌, ◌++◌, set, length, Some, None, GoesOn, refl, sym, ◌∙◌, ap, inl, inr, le_refl, eq-eqb, ne_eqb, arith, ⊎_elim, common_steps, length-append, length-set, State, Joins, Splits, at_set, set_here, set_else, at_longer, at_last, Machine, opening, new_seat, after, seat_at, is_idle, with_seat, SameHolders, holders_stay_push, live_is_made, holders_stay, seat_at-here, seat_at-else, SeatView, Split, Join, Key, KeeperMemo, Move, SeatMemo, Slot, View, Sits, Keeps, Spent, Leads, by_seat, by_keeper, join_both, split_right, IsSeatMemo, Runs, and_move, ended, new_memo, makes, welcomes, get_elem?, some, next_of_possible, lt-ltb, on_keeper}
 use Rattle.permit_ring.proofs.LogLemmas.{taken_none}
 use Rattle.permit_ring.proofs.ListLemmas.{at_end, at_length}
 use Rattle.permit_ring.proofs.NewRings.{new_ordered}
@@ -69,13 +69,13 @@ module _ {O D T N : Type 0} {note : D → N} {Ao : T → O → Type 0} {An : T �
 module _ {O D T N : Type 0} (note : D → N) (Ao : T → O → Type 0) (An : T → N → Type 0) (key : Key T) where
   -- the keeper may make one more seat where fewer were made than may be
   pub splits_allowed : (id : ℕ) (v : View T N) (k : KeeperMemo N) → v ≡ Keeps key k → k.made < key.limit
-      → Splits (Runs note Ao An key) id v (split_left v) (split_right v)
+      → Splits (Runs note Ao An key) id v (on_keeper makes v) (split_right v)
   splits_allowed id v k is room s r at =
       let p = keeper_port r (at ∙ ap some is) in
       let few : r.keeper.made < key.limit = rw p.1 at room in
       rw (is, p.0, p.1) (elim r.knows.made_is [
         | inl all ↦
-            let can = split_next r.machine (omega (arith, sizes_of r)) in
+            let can = next_of_possible r.machine Split (lt-ltb (length r.machine.seats) r.machine.limit (omega (arith, sizes_of r))) in
             split_runs r (r.machine.seats ++ new_seat ∷ []) (and_move r.moves Split 0)
             (grind (arith, common_steps, all, by_seat-on r.moves Split 0, holders_stay_push r.machine.seats))
             (leads_on (opening key.positions key.limit) r.machine (after r.machine Split) r.moves Split r.reached can)
@@ -86,7 +86,7 @@ module _ {O D T N : Type 0} (note : D → N) (Ao : T → O → Type 0) (An : T �
 
   -- the keeper may take an idle seat back
   pub joins_allowed : (id other : ℕ) (v w : View T N) (k : KeeperMemo N) (memo : SeatMemo N) → v ≡ Keeps key k → w ≡ Sits key memo
-      → is_idle memo.view ≡ true → Joins (Runs note Ao An key) id v other w (join_both v w) join_spent
+      → is_idle memo.view ≡ true → Joins (Runs note Ao An key) id v other w (join_both v w) Spent
   joins_allowed id other v w k memo keeps sits idle s r at apart at_other =
       let p = keeper_port r (at ∙ ap some keeps) in
       let there : get_elem? s.views other ≡ some (Sits key memo) = cc (set_else s.views id other (join_both v w) apart) in
@@ -113,7 +113,7 @@ module _ {O D T N : Type 0} (note : D → N) (Ao : T → O → Type 0) (An : T �
         machine = now;
         moves = moves;
         reached = leads_on (opening key.positions key.limit) m now r.moves (Join memo.number) r.reached
-            (join_next m memo.number (rw its.shows at idle));
+            (next_of_possible m (Join memo.number) (rw its.shows at idle));
         words_are = r.words_are;
         fates = r.fates;
         keeper = welcomes memo r.keeper;

@@ -1,6 +1,5 @@
 -- The log of a seat and what became of tickets, with one call or one ticket more.
-use Rattle.permit_ring.proofs.Names.{◌≡◌, ◌≢◌, ℕ, zero, suc, ◌+◌, ◌<◌, ◌≤◌, ◌⊎◌, Bool, true, false, cond, List, [], ◌∷◌, ◌++◌, set, Option, Some, None, refl, ◌∙◌, ap, inl, inr, eqb, ne_eqb, eqb-true, ⊎_elim, at_snoc, Rest, SeesRests, arith, common_steps, at_map, map, Outcome, Lost, Got, start_of, end_of, RisesFrom, end_from, got_of, taken_by, get_elem?, some, fate_within, lost}
-use Rattle.permit_ring.specs.Logs.{fate_of}
+use Rattle.permit_ring.proofs.Names.{◌≡◌, ◌≢◌, ℕ, zero, suc, ◌+◌, ◌<◌, ◌≤◌, ◌⊎◌, Bool, true, false, cond, List, [], ◌∷◌, ◌++◌, set, Option, Some, None, refl, ◌∙◌, ap, inl, inr, eqb, ne_eqb, eqb-true, ⊎_elim, at_snoc, Rest, SeesRests, arith, common_steps, at_map, map, Outcome, Lost, Got, start_of, end_of, RisesFrom, end_from, got_of, taken_by, get_elem?, some, fate_within, lost, fate_of}
 
 module _ {N : Type 0} where
   -- a call that does not stand before the last one's end

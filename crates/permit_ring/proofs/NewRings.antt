@@ -1,9 +1,7 @@
 -- A ring that has just been made: it keeps the rule, and its keeper and seats stand.
-use Rattle.permit_ring.proofs.Names.{◌≡◌, ℕ, zero, suc, ◌+◌, ◌%◌, ◌<◌, List, [], ◌∷◌, ◌++◌, length, refl, sym, ◌∙◌, ap, mod-eq_of_lt, arith, ⊎_elim, map, replicate, length_push, length-map, all_free, opening, packed, Slot, Ring, Seat, Key, Offered, IsOrdered, made_memo, IsNewSeat, AreNewSeats, new_memo, IsUntouched, SeatMemo, Option, None, replicate_more, first_memo, AllAdmitted, HasOffered, IsKey, first_view, Runs, at_map, get_elem?, some-ne-none, some, Split}
-use Rattle.permit_ring.specs.Moves.{move}
+use Rattle.permit_ring.proofs.Names.{◌≡◌, ℕ, zero, suc, ◌+◌, ◌%◌, ◌<◌, List, [], ◌∷◌, ◌++◌, length, refl, sym, ◌∙◌, ap, mod-eq_of_lt, arith, ⊎_elim, map, replicate, length_push, length-map, all_free, opening, packed, Slot, Ring, Seat, Key, Offered, IsOrdered, made_memo, IsNewSeat, AreNewSeats, new_memo, IsUntouched, SeatMemo, Option, None, replicate_more, first_memo, AllAdmitted, HasOffered, IsKey, first_view, Runs, at_map, get_elem?, some-ne-none, some, Split, move, opens}
 use Rattle.permit_ring.proofs.ListLemmas.{at_end, there}
 use Rattle.atomic_table.specs.Table as table
-use Rattle.ring_core.proofs.Opens.{opens}
 
 module _ {O D T N : Type 0} (note : D → N) (Ao : T → O → Type 0) (An : T → N → Type 0) (key : Key T) where
   -- a ring whose slots have admitted values, and whose words are those of the opening state, runs

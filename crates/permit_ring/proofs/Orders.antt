@@ -1,6 +1,5 @@
 -- In which order the moves of a ring got their tickets.
-use Rattle.permit_ring.proofs.Names.{◌≡◌, ℕ, zero, suc, ◌+◌, true, false, List, [], ◌∷◌, take, arith, common_steps, Machine, IsRing, after, word_packs, unpacked-packed, after_keeps, after_sizes, opening, opens, Move, found_at, Leads, get_elem?, some, Key, State, Slot, View, Runs}
-use Rattle.permit_ring.specs.Order.{gets_ticket, ticket_at, tickets_got, AreCounted, AreInOrder}
+use Rattle.permit_ring.proofs.Names.{◌≡◌, ℕ, zero, suc, ◌+◌, true, false, List, [], ◌∷◌, take, arith, common_steps, Machine, IsRing, after, word_packs, unpacked-packed, after_keeps, after_sizes, opening, opens, Move, found_at, Leads, get_elem?, some, Key, State, Slot, View, Runs, gets_ticket, ticket_at, tickets_got, AreCounted, AreInOrder}
 
 module _ (m : Machine) (r : IsRing m) where
   -- a move that gets a ticket claims one more, and the ticket is the number of those before; any other claims none

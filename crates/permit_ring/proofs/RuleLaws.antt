@@ -1,7 +1,5 @@
 -- What the rule says of a ring: of its tickets, its logs, its slots and its words.
-use Rattle.permit_ring.proofs.Names.{◌≡◌, ℕ, zero, suc, ◌+◌, ◌%◌, ◌<◌, ◌≤◌, false, is_some, Option, Some, None, refl, sym, ◌∙◌, ap, inl, inr, mod-eq_of_lt, arith, ⊎_elim, map, at_map, cases_eq, common_steps, State, seat_at, Holds, Key, Lost, Got, SeatMemo, Slot, View, Sits, SitsThere, CameBack, IsMemoThere, IsHeldOnce, HasOnePlace, IsNotedAs, IsInOrder, IsAdmittedSlot, IsOneSeats, Home, IsSlot, IsSeatMemo, IsSomewhere, Runs, get_elem?, some, add-mod_right, fates_in_order}
-use mathlib.Core.Option as maybe
-use Rattle.ring_core.proofs.SeatLemmas.{live_is_made}
+use Rattle.permit_ring.proofs.Names.{◌≡◌, ℕ, zero, suc, ◌+◌, ◌%◌, ◌<◌, ◌≤◌, false, is_some, Option, Some, None, refl, sym, ◌∙◌, ap, inl, inr, mod-eq_of_lt, arith, ⊎_elim, map, at_map, cases_eq, common_steps, State, seat_at, Holds, Key, Lost, Got, SeatMemo, Slot, View, Sits, SitsThere, CameBack, IsMemoThere, IsHeldOnce, HasOnePlace, IsNotedAs, IsInOrder, IsAdmittedSlot, IsOneSeats, Home, IsSlot, IsSeatMemo, IsSomewhere, Runs, get_elem?, some, add-mod_right, fates_in_order, live_is_made, Maybe}
 use Rattle.permit_ring.proofs.States.{ring_of, keeper_port, seated}
 use Rattle.permit_ring.proofs.ListLemmas.{at_length, there}
 use Rattle.permit_ring.proofs.LogLemmas.{got_in, got_from, taken_in, taken_from, within_end}
@@ -136,7 +134,7 @@ module _ {O D T N : Type 0} {note : D → N} {Ao : T → O → Type 0} {An : T �
   }
 
   -- the value at home of a ticket is admitted, whatever became of it
-  value_at : (t : ℕ) (x : Slot O D) (home : Home O D) (fate : maybe.Option (Option (ℕ × N))) → get_elem? r.fates t ≡ fate
+  value_at : (t : ℕ) (x : Slot O D) (home : Home O D) (fate : Maybe (Option (ℕ × N))) → get_elem? r.fates t ≡ fate
       → IsSlot note (Ao key.terms) r.machine r.fates t home → home ≡ some (some x) → IsAdmittedSlot note Ao An key.terms x
   value_at t x home (some (Some y)) e is at = grind (arith, at, is.finished_home y.0 y.1 e, r.are_fates.finished t y.0 y.1 e)
   value_at t x home fate e is at = grind (arith, is, at, there r.fates t, r.are_fates.each_claimed)

@@ -1,6 +1,5 @@
 -- What runs of the keeper's steps add: reaps one after the other, and an offer.
-use Rattle.permit_ring.proofs.Names.{◌≡◌, ℕ, ◌+◌, ◌≤◌, ◌<◌, List, [], ◌∷◌, ◌++◌, length, refl, arith, common_steps, KeeperMemo, eq-zero-or-pos}
-use Rattle.permit_ring.specs.{reaps_all, ReapsToEnd, OffersAll, reaps}
+use Rattle.permit_ring.proofs.Names.{◌≡◌, ℕ, ◌+◌, ◌≤◌, ◌<◌, List, [], ◌∷◌, ◌++◌, length, refl, arith, common_steps, KeeperMemo, eq-zero-or-pos, reaps_all, ReapsToEnd, OffersAll, reaps}
 
 module _ {N : Type 0} where
   -- one reap more

@@ -1,14 +1,8 @@
 -- What is left once all seats are back, and that what is settled stays so.
-use Rattle.permit_ring.proofs.Names.{◌≡◌, ◌≢◌, ◌≤◌, ℕ, zero, suc, ◌+◌, ◌-◌, ◌%◌, ◌<◌, is_some, List, [], ◌∷◌, ◌++◌, map, length, get_or, sum_by, Option, Some, None, refl, sym, ◌∙◌, ap, subst, inl, inr, mod-lt, arith, false≢true, common_steps, length-map, nil_from_length, sum_by-cons, at_longer, at_map, State, SeatView, Key, KeeperMemo, Got, SeatMemo, Slot, View, OfferTells, AreAllBack, IsAllReaped, IsSettled, IsWholeLog, marks_back, StandsIn, Runs, Machine, marks_of, nobody, mark_at, seat_at, Holds, all_but_a_turn_reaped, live_is_made, one_turn, get_elem?, some, decided_on, append_assoc, See, Read, by_keeper, by_seat, packed, waits}
-use Rattle.permit_ring.specs.Moves.{move}
-use Rattle.permit_ring.specs.Logs.{end_from, fate_of}
-use Rattle.permit_ring.specs.Calls.{last_word, tried}
-use Rattle.permit_ring.specs.Order.{HaveOneOrder}
+use Rattle.permit_ring.proofs.Names.{◌≡◌, ◌≢◌, ◌≤◌, ℕ, zero, suc, ◌+◌, ◌-◌, ◌%◌, ◌<◌, is_some, List, [], ◌∷◌, ◌++◌, map, length, get_or, sum_by, Option, Some, None, refl, sym, ◌∙◌, ap, subst, inl, inr, mod-lt, arith, false≢true, common_steps, length-map, nil_from_length, sum_by-cons, at_longer, at_map, State, SeatView, Key, KeeperMemo, Got, SeatMemo, Slot, View, OfferTells, AreAllBack, IsAllReaped, IsSettled, IsWholeLog, marks_back, StandsIn, Runs, Machine, marks_of, nobody, mark_at, seat_at, Holds, all_but_a_turn_reaped, live_is_made, one_turn, get_elem?, some, decided_on, append_assoc, See, Read, by_keeper, by_seat, packed, waits, move, end_from, fate_of, last_word, tried, HaveOneOrder, loss_at, AreAllDecided}
 use Rattle.permit_ring.proofs.Orders.{counted, in_order}
 use Rattle.permit_ring.proofs.LogLemmas.{got_from, lost_in, taken_in, within_end}
 use Rattle.permit_ring.proofs.States.{ring_of}
-use Rattle.ring_core.specs.{loss_at}
-use Rattle.ids_types.specs.Fates.{AreAllDecided}
 
 -- where each ticket has its note, something became of each
 all_noted : {N : Type 0} (fates : List (Option (ℕ × N))) (notes : List N) → length notes ≡ length fates

@@ -1,12 +1,6 @@
 -- Moves lead from ring to ring, each of one actor alone, and what stays of the rule where one view changes.
-use Rattle.permit_ring.proofs.Names.{◌≡◌, ◌≢◌, ℕ, ◌+◌, ◌%◌, ◌<◌, ◌≤◌, true, List, set, Option, ◌∙◌, inl, inr, mod-lt, arith, cases_eq, common_steps, length-set, set_here, set_else, State, Machine, HasSizes, opening, IsRing, SameHolders, same_position, opens, Key, KeeperMemo, SeatMemo, Slot, View, Sits, Keeps, AreFates, IsSlot, AreSlots, IsSeatMemo, Runs, get_elem?, some, [], ◌∷◌, Some, sym, subst, append-nil, after, next, step_of_next, after_keeps, after_sizes, same_sizes, Step, Move, found_at, Leads, is_of_seat, is_of_keeper, by_seat, by_keeper, and_move, cond, zero, suc, ap, SeatView, seat_at, live_is_made, served, new_seat, possible}
-use mathlib.Core.Option as maybe
+use Rattle.permit_ring.proofs.Names.{◌≡◌, ◌≢◌, ℕ, ◌+◌, ◌%◌, ◌<◌, ◌≤◌, true, List, set, Option, ◌∙◌, inl, inr, mod-lt, arith, cases_eq, common_steps, length-set, set_here, set_else, State, Machine, HasSizes, opening, IsRing, SameHolders, same_position, opens, Key, KeeperMemo, SeatMemo, Slot, View, Sits, Keeps, AreFates, IsSlot, AreSlots, IsSeatMemo, Runs, get_elem?, some, [], ◌∷◌, Some, sym, subst, append-nil, after, next, step_of_next, after_keeps, after_sizes, same_sizes, Step, Move, found_at, Leads, is_of_seat, is_of_keeper, by_seat, by_keeper, and_move, cond, zero, suc, ap, SeatView, seat_at, live_is_made, served, new_seat, possible, sum_by_push, one_if, sums_after, armed_count, Claim, Maybe}
 use Rattle.std.proofs.lemmas.List.Elements.{filter-append}
-use Rattle.std.proofs.lemmas.List.Sums.{sum_by_push}
-use Rattle.ring_core.proofs.SeatLemmas.{one_if, sums_after}
-use Rattle.ring_core.specs.{armed_count}
-use Rattle.ring_core.specs.declared.step.Step.TheVariants.{Resume}
-use Rattle.permit_ring.specs.{Look, Claim, Finish, See, Read, Offer, Mark, Sweep, Split, Join}
 
 -- one step more
 pub leads_on : (start m now : Machine) (moves : List Move) (step : Step) → Leads start moves m → next m step ≡ Some now
@@ -27,20 +21,11 @@ armed_set (x ∷ seats) (suc i) seat was = grind (arith, common_steps, armed_set
 
 -- each step keeps it
 left_after : (m : Machine) → IsRing m → OneIsLeft m → (step : Step) → possible m step ≡ true → OneIsLeft (after m step)
-left_after m r left (Look i) ok = let same = armed_set m.seats i in grind arith
 left_after m r left (Claim i) ok =
     let made = live_is_made m.seats i ((r.seats.each i).armed_is_live ok) in
     let sums = sums_after m.seats i (served m.word (seat_at m.seats i)) made in
     grind (arith, sums, ap one_if ok)
-left_after m r left (Finish i) ok = let same = armed_set m.seats i in grind arith
-left_after m r left See ok = left
-left_after m r left Read ok = left
-left_after m r left (Offer k) ok = grind arith
-left_after m r left (Mark i kind) ok = let same = armed_set m.seats i in grind arith
-left_after m r left (Sweep kind) ok = grind arith
-left_after m r left Split ok = grind (arith, sum_by_push (λ (s : SeatView). one_if s.armed) m.seats new_seat)
-left_after m r left (Join i) ok = let same = armed_set m.seats i in grind arith
-left_after m r left (Resume i) ok = let same = armed_set m.seats i in grind arith
+left_after m r left step ok = grind (arith, armed_set m.seats, sum_by_push (λ (s : SeatView). one_if s.armed) m.seats new_seat)
 
 -- moves lead from a ring to a ring, of its sizes
 pub led_keeps : (start m : Machine) (moves : List Move) → IsRing start → OneIsLeft start → Leads start moves m
@@ -65,7 +50,7 @@ module _ {N : Type 0} {m now : Machine} {fates : List (Option (ℕ × N))} where
       → AreFates m Admits made fates → AreFates now Admits more fates
   fates_stay grown same claimed f = grind (arith, common_steps)
 
-  module _ {O D : Type 0} {note : D → N} {Admits : O → Type 0} {n : ℕ} {homes : List (maybe.Option (Slot O D))} where
+  module _ {O D : Type 0} {note : D → N} {Admits : O → Type 0} {n : ℕ} {homes : List (Maybe (Slot O D))} where
     -- where none is claimed, offered or reaped, the slots stay
     pub slots_stay : now.reaped ≡ m.reaped → now.word.claimed ≡ m.word.claimed → now.offered ≡ m.offered
         → AreSlots note Admits m fates n homes → AreSlots note Admits now fates n homes
@@ -73,9 +58,9 @@ module _ {N : Type 0} {m now : Machine} {fates : List (Option (ℕ × N))} where
         record { a_slot_each = a.a_slot_each; each = λ t from to. let is = a.each t (omega arith) (omega arith) in grind (arith, is) }
 
 module _ {O D N : Type 0} {note : D → N} {Admits : O
-    → Type 0} {n : ℕ} {homes : List (maybe.Option (Slot O D))} {m now : Machine} {fates later : List (Option (ℕ × N))} where
+    → Type 0} {n : ℕ} {homes : List (Maybe (Slot O D))} {m now : Machine} {fates later : List (Option (ℕ × N))} where
   -- the slots after that of ticket u of the turn changed
-  pub slots_set : (u : ℕ) (v : maybe.Option (Slot O D)) → 1 ≤ n → AreSlots note Admits m fates n homes → now.reaped ≤ u
+  pub slots_set : (u : ℕ) (v : Maybe (Slot O D)) → 1 ≤ n → AreSlots note Admits m fates n homes → now.reaped ≤ u
       → u < now.reaped + n → IsSlot note Admits now later u (some v)
       → ((t : ℕ) → t ≢ u → now.reaped ≤ t → t < now.reaped + n → IsSlot note Admits now later t (get_elem? homes (t % n)))
       → AreSlots note Admits now later n (set homes (u % n) v)
@@ -90,21 +75,22 @@ module _ {O D N : Type 0} {note : D → N} {Admits : O
 
 module _ {O D T N : Type 0} {note : D → N} {Ao : T → O → Type 0} {An : T → N → Type 0} {key : Key T} {s : State (Slot O D) (View T N)}
     (r : Runs note Ao An key s) where
-  -- the machine is a ring of the ring's sizes
-  ring_led : IsRing r.machine × HasSizes key.positions key.limit r.machine × OneIsLeft r.machine
-  ring_led = led_keeps (opening key.positions key.limit) r.machine r.moves
+  -- moves from the opening state lead to rings of its sizes
+  pub led_on : (m : Machine) (moves : List Move) → Leads (opening key.positions key.limit) moves m
+      → IsRing m × HasSizes key.positions key.limit m × OneIsLeft m
+  led_on m moves = led_keeps (opening key.positions key.limit) m moves
       (opens key.positions key.limit r.sizes.some_position r.sizes.most_positions r.sizes.some_seat r.sizes.most_seats)
-      (λ full. absurd (omega (arith, full, r.sizes.some_position))) r.reached
+      (λ full. absurd (omega (arith, full, r.sizes.some_position)))
 
   pub ring_of : IsRing r.machine
-  ring_of = ring_led.0
+  ring_of = (led_on r.machine r.moves r.reached).0
 
   pub sizes_of : HasSizes key.positions key.limit r.machine
-  sizes_of = ring_led.1
+  sizes_of = (led_on r.machine r.moves r.reached).1
 
   -- not all seats claimed in vain since the last offer
   pub over_few : r.machine.word.over < key.limit
-  over_few = grind (arith, sizes_of, ring_led.2, ring_of.permits.either, r.sizes.some_seat)
+  over_few = grind (arith, sizes_of, (led_on r.machine r.moves r.reached).2, ring_of.permits.either, r.sizes.some_seat)
 
   -- no ticket is a turn ahead
   pub one_turn_ahead : r.machine.offered ≤ r.machine.reaped + key.positions

@@ -1,7 +1,5 @@
 -- A call that is lost at a ring of two positions although it is the only one since the last turn, worked out by hand.
-use Rattle.permit_ring.proofs.Names.{◌≡◌, ℕ, true, List, [], ◌∷◌, refl, Holds, seat_at, opening, Look, Claim, Finish, See, Split, Key, Move, Leads}
-use Rattle.permit_ring.specs.Moves.{move}
-use Rattle.permit_ring.specs.Live.{led, state_before, finds_none, finds_unready, HasGivenBack, left_and_since}
+use Rattle.permit_ring.proofs.Names.{◌≡◌, ℕ, true, List, [], ◌∷◌, refl, Holds, seat_at, opening, Look, Claim, Finish, See, Split, Key, Move, Leads, move, led, state_before, finds_none, finds_unready, HasGivenBack, left_and_since}
 
 abbrev two_of_two : Key ℕ
 two_of_two = record { positions = 2; limit = 2; terms = 0 }

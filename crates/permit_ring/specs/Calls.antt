@@ -1,6 +1,6 @@
 -- What the calls of seats and of the keeper do, as equations on what they know.
-use Rattle.std.specs.Prelude.{◌≡◌, ◌≢◌, ℕ, ◌+◌, ◌<◌, ◌≤◌, ◌⊎◌, List, [], ◌∷◌, ◌++◌, map, length, Option, Some, None, Result, Ok, Err}
-use Rattle.permit_ring.specs.Names.{Unready, Offer, PermitWord, KeeperMemo, Move, SeatMemo, Ticket, offered_to, packed}
+use Rattle.std.specs.Prelude.{◌≡◌, ◌≢◌, ◌+◌, ◌<◌, ◌≤◌, ◌⊎◌, ◌∷◌, ◌++◌}
+use Rattle.permit_ring.specs.Names.{ℕ, List, [], map, length, Option, Some, None, Result, Ok, Err, Unready, Offer, PermitWord, KeeperMemo, Move, SeatMemo, Ticket, offered_to, packed}
 use Rattle.permit_ring.specs.declared.answer.Look.{Look as Shown}
 use Rattle.permit_ring.specs.Moves.{move}
 use Rattle.permit_ring.specs.Steps.{looks, claims, waits, reaps, reads}

@@ -1,8 +1,6 @@
 -- What the keeper knows once all seats are back.
-use Rattle.std.specs.Prelude.{◌≡◌, ℕ, zero, suc, ◌<◌, ◌≤◌, List, map, length, sum, sum_by, is_some, true, Option, Some, None}
-use mathlib.Core.Option.{some}
-use lib.ListN.{get_elem?}
-use Rattle.permit_ring.specs.Names.{KeeperMemo, SeatMemo, marks_of, AreAllDecided}
+use Rattle.std.specs.Prelude.{◌≡◌, ◌<◌, ◌≤◌}
+use Rattle.permit_ring.specs.Names.{ℕ, zero, suc, List, map, length, sum, sum_by, is_some, true, Option, Some, None, some, get_elem?, KeeperMemo, SeatMemo, marks_of, AreAllDecided}
 use Rattle.permit_ring.specs.Logs.{GoesOn, SeesRests, end_from, fate_of, got_of, taken_by}
 use Rattle.permit_ring.specs.Order.{HaveOneOrder}
 use Rattle.permit_ring.specs.Rule.{StandsIn}

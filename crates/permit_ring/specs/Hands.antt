@@ -1,8 +1,6 @@
 -- The slots that the keeper has in hand.
-use Rattle.std.specs.Prelude.{◌≡◌, ℕ, suc, ◌%◌, List, [], ◌∷◌, ◌++◌, map, replicate}
-use mathlib.Core.Option.{some}
-use lib.ListN.{get_elem?}
-use Rattle.permit_ring.specs.Names.{Slot, Empty, Offered}
+use Rattle.std.specs.Prelude.{◌≡◌, ◌%◌, ◌∷◌, ◌++◌}
+use Rattle.permit_ring.specs.Names.{ℕ, suc, List, [], map, replicate, some, get_elem?, Slot, Empty, Offered}
 
 module _ {O D : Type 0} where
   -- slots from ticket t on, each with its place

@@ -1,6 +1,6 @@
 -- What a call and a turn find at a ring while other moves go on.
-use Rattle.std.specs.Prelude.{◌≡◌, ℕ, ◌+◌, ◌-◌, ◌⊎◌, Bool, true, false, ◌&&◌, not, ◌==◌, List, [], ◌∷◌, take, drop}
-use Rattle.permit_ring.specs.Names.{Key, Machine, Move, Step, Look, Claim, See, Holds, seat_at, opening, after, unpacked}
+use Rattle.std.specs.Prelude.{◌≡◌, ◌+◌, ◌-◌, ◌⊎◌, ◌&&◌, ◌==◌, ◌∷◌}
+use Rattle.permit_ring.specs.Names.{ℕ, Bool, true, false, not, List, [], take, drop, Key, Machine, Move, Step, Look, Claim, See, Holds, seat_at, opening, after, unpacked}
 use Rattle.permit_ring.specs.Order.{tickets_got}
 
 -- the state after moves from another

@@ -1,10 +1,7 @@
 -- What became of the calls of a seat, and of the tickets of a ring.
-use Rattle.std.specs.Prelude.{◌≡◌, ℕ, suc, ◌+◌, ◌≤◌, ◌==◌, ◌||◌, is_some, if◌then◌else◌, List, [], ◌∷◌, ◌++◌, map, length, Option, Some, None}
+use Rattle.std.specs.Prelude.{◌≡◌, ◌+◌, ◌≤◌, ◌==◌, ◌||◌, if◌then◌else◌, ◌∷◌, ◌++◌}
+use Rattle.permit_ring.specs.Names.{ℕ, suc, is_some, List, [], map, length, Option, Some, None, some, get_elem?, SeatView, Outcome, Lost, Got, Rest, SeatMemo, Fate, lost, accepted, FatesFrom, Holds}
 use Rattle.ids_types.specs.Fates as fates
-use mathlib.Core.Option.{some}
-use lib.ListN.{get_elem?}
-use Rattle.permit_ring.specs.Names.{SeatView, Outcome, Lost, Got, Rest, SeatMemo, Fate, lost, accepted, FatesFrom}
-use Rattle.ring_core.specs.Sound.{Holds}
 
 module _ {N : Type 0} where
   -- what became of a call, without its note

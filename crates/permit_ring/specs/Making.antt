@@ -1,8 +1,6 @@
 -- A ring that has just been made.
-use Rattle.std.specs.Prelude.{◌≡◌, ℕ, zero, suc, ◌-◌, List, [], ◌∷◌, length, replicate, None}
-use mathlib.Core.Option.{some}
-use lib.ListN.{get_elem?}
-use Rattle.permit_ring.specs.Names.{Keeper, KeeperMemo, Ring, Seat, Split, all_free}
+use Rattle.std.specs.Prelude.{◌≡◌, ◌-◌, ◌∷◌}
+use Rattle.permit_ring.specs.Names.{ℕ, zero, suc, List, [], length, replicate, None, some, get_elem?, Keeper, KeeperMemo, Ring, Seat, Split, all_free}
 use Rattle.permit_ring.specs.Moves.{move}
 use Rattle.permit_ring.specs.Seats.{IsSeatOf, IsKeeperOf, seat_memo, seat_number, seat_calls, seat_ticket, keeper_memo, ring_positions, ring_seats, ring_terms, vacant_of, filled_of}
 use Rattle.permit_ring.specs.Steps.{new_memo, first_memo, makes}

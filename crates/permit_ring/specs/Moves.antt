@@ -1,6 +1,6 @@
 -- Moves: steps of the ring machine, each with the number that it found in its word.
-use Rattle.std.specs.Prelude.{◌≡◌, ℕ, ◌%◌, Bool, true, false, ◌==◌, List, [], ◌∷◌, filter}
-use Rattle.permit_ring.specs.Names.{Step, Look, Claim, Finish, See, Read, Offer, Mark, Sweep, Move, Machine, possible, after, mark_at, loss_at, packed}
+use Rattle.std.specs.Prelude.{◌≡◌, ◌%◌, ◌==◌, ◌∷◌}
+use Rattle.permit_ring.specs.Names.{ℕ, Bool, true, false, List, [], filter, Step, Look, Claim, Finish, See, Read, Offer, Mark, Sweep, Move, Machine, possible, after, mark_at, loss_at, packed}
 
 -- the number that a step finds; a finish only writes, and splits and joins look at nothing that they find
 abbrev pub found_at : Machine → Step → ℕ

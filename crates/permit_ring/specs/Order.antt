@@ -1,8 +1,6 @@
 -- In which order steps were made and tickets were got.
-use Rattle.std.specs.Prelude.{◌≡◌, ℕ, ◌+◌, ◌<◌, Bool, true, false, ◌&&◌, nat_lt, if◌then◌else◌, List, [], ◌∷◌, ◌++◌, take, Some}
-use mathlib.Core.Option.{some}
-use lib.ListN.{get_elem?}
-use Rattle.permit_ring.specs.Names.{KeeperMemo, Machine, SeatMemo, Step, Claim, Move, opening, unpacked}
+use Rattle.std.specs.Prelude.{◌≡◌, ◌+◌, ◌<◌, ◌&&◌, if◌then◌else◌, ◌∷◌, ◌++◌}
+use Rattle.permit_ring.specs.Names.{ℕ, Bool, true, false, nat_lt, List, [], take, Some, some, get_elem?, KeeperMemo, Machine, SeatMemo, Step, Claim, Move, opening, unpacked}
 use Rattle.permit_ring.specs.Moves.{Leads, by_keeper, by_seat}
 
 -- the step is a claim

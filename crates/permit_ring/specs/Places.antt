@@ -1,8 +1,6 @@
 -- Where the tickets, the calls and the values of a ring stand.
-use Rattle.std.specs.Prelude.{◌≡◌, ◌≢◌, ℕ, ◌<◌, ◌≤◌, ◌⊎◌, true, List, Some}
-use mathlib.Core.Option.{some}
-use lib.ListN.{get_elem?}
-use Rattle.permit_ring.specs.Names.{Key, KeeperMemo, Move, Outcome, Lost, Got, SeatMemo, Slot, Empty, Offered, Finished, View, Sits, Keeps, Machine, opening, Holds, IsRing}
+use Rattle.std.specs.Prelude.{◌≡◌, ◌≢◌, ◌<◌, ◌≤◌, ◌⊎◌}
+use Rattle.permit_ring.specs.Names.{ℕ, true, List, Some, some, get_elem?, Key, KeeperMemo, Move, Outcome, Lost, Got, SeatMemo, Slot, Empty, Offered, Finished, View, Sits, Keeps, Machine, opening, Holds, IsRing}
 use Rattle.permit_ring.specs.Logs.{start_of, end_of}
 use Rattle.permit_ring.specs.Moves.{Leads}
 use Rattle.permit_ring.specs.Rule.{words_of}

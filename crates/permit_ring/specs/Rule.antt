@@ -1,10 +1,6 @@
 -- The rule of a running ring: what holds of its words, its slots and all views between any two steps.
-use Rattle.std.specs.Prelude.{◌≡◌, ℕ, ◌+◌, ◌%◌, ◌<◌, ◌≤◌, ◌⊎◌, true, false, List, [], ◌∷◌, ◌++◌, length, sum, Option, Some, None}
-use mathlib.Core.Option.{some, none}
-use mathlib.Core.Option as maybe
-use lib.ListN.{get_elem?}
-use Rattle.atomic_table.specs.Table.{State}
-use Rattle.permit_ring.specs.Names.{PermitWord, Key, KeeperMemo, Move, Lost, Rest, SeatMemo, Slot, Offered, Finished, View, Sits, Keeps, Spent, Machine, opening, new_seat, seat_at, Holds, packed}
+use Rattle.std.specs.Prelude.{◌≡◌, ◌+◌, ◌%◌, ◌<◌, ◌≤◌, ◌⊎◌, ◌∷◌, ◌++◌}
+use Rattle.permit_ring.specs.Names.{ℕ, true, false, List, [], length, sum, Option, Some, None, some, none, get_elem?, State, PermitWord, Key, KeeperMemo, Move, Lost, Rest, SeatMemo, Slot, Offered, Finished, View, Sits, Keeps, Spent, Machine, opening, new_seat, seat_at, Holds, packed, Maybe}
 use Rattle.permit_ring.specs.Logs.{GoesOn, IsOrdered, end_from, got_of, taken_by}
 use Rattle.permit_ring.specs.Moves.{Leads, by_seat, by_keeper}
 use Rattle.permit_ring.specs.Steps.{first_memo}
@@ -90,7 +86,7 @@ module _ {N : Type 0} where
 
 -- what stands at a place of the slots: nothing where it is no place, and else a value or, while someone has it, none
 abbrev pub Home : Type 0 → Type 0 → Type 0
-Home O D = maybe.Option (maybe.Option (Slot O D))
+Home O D = Maybe (Maybe (Slot O D))
 
 module _ {O D : Type 0} (home : Home O D) where
   -- a finished value of this note
@@ -116,7 +112,7 @@ module _ {O D N : Type 0} (note : D → N) (Admits : O → Type 0) (m : Machine)
     pub vacant_out : m.offered ≤ t → IsOut home
 
   -- what the slots hold, from the next ticket to be reaped on for one turn
-  pub record AreSlots (n : ℕ) (homes : List (maybe.Option (Slot O D))) : Type 0 where
+  pub record AreSlots (n : ℕ) (homes : List (Maybe (Slot O D))) : Type 0 where
     pub a_slot_each : length homes ≡ n
     pub each : (t : ℕ) → m.reaped ≤ t → t < m.reaped + n → IsSlot t (get_elem? homes (t % n))
 

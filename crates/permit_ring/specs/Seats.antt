@@ -1,7 +1,7 @@
 -- Who belongs to a ring, and what it knows and holds between two calls.
-use Rattle.std.specs.Prelude.{◌≡◌, ℕ, ◌+◌, ◌%◌, ◌^◌, ◌≤◌, true, false, List, [], ◌∷◌, length, Option, Some, None}
+use Rattle.std.specs.Prelude.{◌≡◌, ◌+◌, ◌%◌, ◌^◌, ◌≤◌, ◌∷◌}
+use Rattle.permit_ring.specs.Names.{ℕ, true, false, List, [], length, Option, Some, None, Keeper, Ticket0, KeeperMemo, SeatMemo, Slot, Offered, View, Sits, Keeps, Ring, Seat, Ticket}
 use Rattle.atomic_table.specs.declared.shared.Seat.{Seat as Token}
-use Rattle.permit_ring.specs.Names.{Keeper, Ticket0, KeeperMemo, SeatMemo, Slot, Offered, View, Sits, Keeps, Ring, Seat, Ticket}
 use Rattle.permit_ring.specs.Hands.{hand_from, filled_then, AllAdmitted}
 use Rattle.permit_ring.specs.Told.{IsWord, seat_in, keeper_in}
 use Rattle.permit_ring.specs.Rule.{IsKey}

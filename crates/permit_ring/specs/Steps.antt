@@ -1,6 +1,6 @@
 -- What each step adds to what its seat or the keeper knows.
-use Rattle.std.specs.Prelude.{◌≡◌, ℕ, ◌+◌, true, false, nat_lt, ◌==◌, if◌then◌else◌, List, [], ◌∷◌, ◌++◌, slice_set, Option, Some, None, zero, suc}
-use Rattle.permit_ring.specs.Names.{Ticket0, Step, Look, Claim, Finish, See, Read, Offer, Mark, Sweep, Split, Join, Resume, PermitWord, KeeperMemo, Move, Outcome, Lost, Got, SeatMemo, new_seat, looked, served, marked, offered_to, all_free, packed}
+use Rattle.std.specs.Prelude.{◌≡◌, ◌+◌, ◌==◌, if◌then◌else◌, ◌∷◌, ◌++◌}
+use Rattle.permit_ring.specs.Names.{ℕ, true, false, nat_lt, List, [], slice_set, Option, Some, None, zero, suc, Ticket0, Step, Look, Claim, Finish, See, Read, Offer, Mark, Sweep, Split, Join, Resume, PermitWord, KeeperMemo, Move, Outcome, Lost, Got, SeatMemo, new_seat, looked, served, marked, offered_to, all_free, packed}
 use Rattle.permit_ring.specs.Moves.{move}
 
 -- one move more

@@ -1,10 +1,10 @@
 -- What each atomic step tells its seat or the keeper: of the step, what was known and held before, the number found, and what is known and held after.
-use Rattle.std.specs.Prelude.{◌≡◌, ◌≢◌, ℕ, ◌+◌, ◌-◌, ◌%◌, ◌^◌, ◌<◌, ◌≤◌, List, [], ◌∷◌, length, drop, sum, suc, Option, Some, None}
+use Rattle.std.specs.Prelude.{◌≡◌, ◌≢◌, ◌+◌, ◌-◌, ◌%◌, ◌^◌, ◌<◌, ◌≤◌, ◌∷◌}
+use Rattle.permit_ring.specs.Names.{ℕ, List, [], length, drop, sum, suc, Option, Some, None, Key, PermitWord, KeeperMemo, SeatMemo, Slot, Empty, Offered, Finished, View, Sits, Keeps, Spent, offered_to, unpacked, field_of, IsPackable, IsReadable}
 use Rattle.atomic_table.specs.Table.{Me, Step, rest}
-use Rattle.permit_ring.specs.Names.{Key, PermitWord, KeeperMemo, SeatMemo, Slot, Empty, Offered, Finished, View, Sits, Keeps, Spent, offered_to, unpacked, field_of, IsPackable, IsReadable}
 use Rattle.permit_ring.specs.Closing.{AreAllBack, IsAllReaped, IsSettled, AreAllSwept, swept_of}
 use Rattle.permit_ring.specs.Logs.{IsOrdered}
-use Rattle.permit_ring.specs.Steps.{new_memo, first_memo, looks, claims, finishes, adds_mark, waits, reaps, reads, offers_all, misses, sweeps, makes, welcomes, first_back, goes_on, resumed}
+use Rattle.permit_ring.specs.Steps.{new_memo, first_memo, looks, claims, finishes, adds_mark, waits, reaps, reads, offers_all, misses, sweeps, welcomes, first_back, goes_on, resumed}
 
 -- a word of a ring with n positions, which can be told from its number
 pub record IsWord (n limit : ℕ) (word : PermitWord) : Type 0 where
@@ -53,11 +53,7 @@ module _ {T N : Type 0} where
   on_keeper f (Keeps key k) = Keeps key (f k)
   on_keeper f v = v
 
-  -- a split makes a seat
-  abbrev pub split_left : View T N → View T N
-  split_left v = on_keeper makes v
-
-  -- which has the next number
+  -- a seat that is split off has the next number
   abbrev pub split_right : View T N → View T N
   split_right (Keeps key k) = Sits key (new_memo k.made)
   split_right _ = Spent
@@ -65,17 +61,6 @@ module _ {T N : Type 0} where
   -- a join takes it back
   abbrev pub join_both : View T N → View T N → View T N
   join_both v other = on_keeper (welcomes (seat_in other)) v
-
-  abbrev pub join_spent : View T N
-  join_spent = Spent
-
-  -- while the keeper holds a seat, a token that knows nothing is in the seat's place. To make it changes nothing that the keeper knows
-  abbrev pub rest_left : View T N → View T N
-  rest_left v = v
-
-  -- and the token itself knows nothing
-  abbrev pub rest_right : View T N → View T N
-  rest_right v = Spent
 
   -- what the first seat that is back knows once it is out again: of its own what it knew, and of the keeper how much has been offered
   abbrev pub seat_again : Key T → KeeperMemo N → Option (SeatMemo N) → View T N

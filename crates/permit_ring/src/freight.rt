@@ -28,9 +28,7 @@ pub trait Freight {
 }
 
 /// The rule of a running ring. It has no values.
-pub struct Running<F> {
-    freight: PhantomData<F>,
-}
+pub struct Running<F>(PhantomData<F>);
 
 impl<F: Freight> TableRule<Slot<F::Offered, F::Finished>, View<F::Terms, F::Note>, Key<F::Terms>>
     for Running<F> {

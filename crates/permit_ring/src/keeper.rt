@@ -1,9 +1,6 @@
 //! The one who takes what was finished and offers positions again.
-ghost use Rattle.std.specs.Prelude.{◌≡◌, ◌≢◌, ℕ, ◌+◌, ◌-◌, ◌%◌, ◌^◌, ◌<◌, ◌≤◌, ◌++◌, IsTrue, IsFalse, None, length, take, drop, sum, IfOk, IfErr};
-ghost use Rattle.ring_core.specs.{all_free as all_free_word, field_of};
-ghost use Rattle.permit_ring.specs.{ReapTells, TriesTell, OfferTells, vacant_after, AreAllBack, IsAllReaped, IsSettled, AreAllSwept, swept_of, Empty, saw_mark, reads, offers_all, misses, sweeps, welcomes, ended, Releases};
-ghost use Rattle.atomic_table.specs.Table.{step};
-ghost use mathlib.Core.Option.{none};
+ghost use Rattle.std.specs.Prelude.{◌≡◌, ◌≢◌, ◌+◌, ◌-◌, ◌%◌, ◌^◌, ◌<◌, ◌≤◌, ◌++◌};
+ghost use Rattle.permit_ring.specs.{ℕ, IsTrue, IsFalse, None, length, take, drop, sum, IfOk, IfErr, all_free as all_free_word, field_of, ReapTells, TriesTell, OfferTells, vacant_after, AreAllBack, IsAllReaped, IsSettled, AreAllSwept, swept_of, Empty, saw_mark, reads, offers_all, misses, sweeps, welcomes, ended, Releases, step, none, IsHeldAs, IsNextHeld, IsKeeperOf, IsSeatOf, keeper_memo, seat_memo, seat_ticket, vacant_of, filled_of, ring_positions, ring_seats, ring_terms};
 
 use crate::answer::Unready;
 use crate::freight::Freight;
@@ -34,8 +31,6 @@ pub struct Keeper<F: Freight> {
 }
 
 impl<F: Freight> Keeper<F> {
-    ghost use Rattle.permit_ring.specs.Seats.{IsHeldAs, IsNextHeld, IsKeeperOf, IsSeatOf, keeper_memo, seat_memo, seat_ticket, vacant_of, filled_of, ring_positions, ring_seats, ring_terms};
-
     // The keeper of a ring whose positions are all free.
     pub(crate) fn of(place: Place<F>, positions: u16) -> Keeper<F>
         ensures { result ≡ record { place = place; reaped = 0; seen = all_free_word positions; filled = 0; vacant = 0; next = 0; vacancy = 0 } }
@@ -79,7 +74,7 @@ impl<F: Freight> Keeper<F> {
             return Err(Unready { mark });
         }
         let words = &ring.table.shared;
-        let old = words.exchange(&mut self.place, position, empty());
+        let old = words.exchange(&mut self.place, position, Slot::Empty);
         let Slot::Finished(value) = old else {
             unreachable!()
         };
@@ -274,13 +269,6 @@ impl<F: Freight> Keeper<F> {
         let place = ring.table.shared.split_seat::<GoesOn>(&mut self.place);
         seat.replace_place(place);
     }
-}
-
-// The slot of a position that was reaped.
-fn empty<O, D>() -> Slot<O, D>
-    ensures { result ≡ Empty }
-{
-    Slot::Empty
 }
 
 // Turns the first slots in hand after the others. Nothing of it is left when it runs.

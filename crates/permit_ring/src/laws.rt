@@ -1,12 +1,7 @@
 //! What the rule of a running ring says between any two steps, as the contracts of functions that
 //! do nothing.
-ghost use Rattle.std.specs.Prelude.{◌≡◌, ℕ, ◌+◌, ◌%◌, ◌<◌, ◌≤◌};
-ghost use mathlib.Core.Option.{some};
-ghost use lib.ListN.{get_elem?};
-ghost use Rattle.permit_ring.specs.{SeatMemo, Slot, Key, KeeperMemo, Sits, Lost, Got, HasOnePlace, IsOneSeats, IsMemoThere, IsInOrder, IsNotedAs, IsAdmittedSlot, ShowsRing, IsOrdered, RunningRing, StandsIn, HasFinished, HasOffered, IsOut, OfferTells, AreAllBack, IsAllReaped, IsSettled, AreCounted, AreInOrder, tickets_got, by_seat, by_keeper};
-ghost use Rattle.ring_core.specs.{seat_at, Holds};
-ghost use Rattle.std.specs.Prelude.{true, false};
-ghost use Rattle.permit_ring.specs.{Move, finds_none, finds_unready, state_before, HasGivenBack, left_and_since, AllTakenOrHeld};
+ghost use Rattle.std.specs.Prelude.{◌≡◌, ◌+◌, ◌%◌, ◌<◌, ◌≤◌};
+ghost use Rattle.permit_ring.specs.{ℕ, some, get_elem?, SeatMemo, Slot, Key, KeeperMemo, Sits, Lost, Got, HasOnePlace, IsOneSeats, IsMemoThere, IsInOrder, IsNotedAs, IsAdmittedSlot, ShowsRing, IsOrdered, RunningRing, StandsIn, HasFinished, HasOffered, IsOut, OfferTells, AreAllBack, IsAllReaped, IsSettled, AreCounted, AreInOrder, tickets_got, by_seat, by_keeper, seat_at, Holds, true, false, Move, finds_none, finds_unready, state_before, HasGivenBack, left_and_since, AllTakenOrHeld};
 
 use crate::freight::Freight;
 

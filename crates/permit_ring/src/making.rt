@@ -1,7 +1,6 @@
 //! How a ring is made, with its keeper and all its seats.
-ghost use Rattle.std.specs.Prelude.{◌≡◌, ◌+◌, ◌<◌, ◌≤◌, [], ◌∷◌, map, length, replicate, IfOk, OnOk};
-ghost use Rattle.ring_core.specs.{all_free as all_free_word, packed};
-ghost use Rattle.permit_ring.specs.{Offered, Keeps, AllAdmitted, AreNewSeats, IsNewRing, made_memo, IsKeeping, first_memo};
+ghost use Rattle.std.specs.Prelude.{◌≡◌, ◌+◌, ◌<◌, ◌≤◌, ◌∷◌};
+ghost use Rattle.permit_ring.specs.{[], map, length, replicate, IfOk, OnOk, all_free as all_free_word, packed, Offered, Keeps, AllAdmitted, AreNewSeats, IsNewRing, made_memo, IsKeeping, first_memo};
 
 use crate::freight::Freight;
 use crate::keeper::Keeper;

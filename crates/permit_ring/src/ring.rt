@@ -1,7 +1,7 @@
 //! The ring that threads share, and its positions.
 
 ghost use Rattle.std.specs.Prelude.{◌≡◌, ◌+◌, ◌%◌, ◌<◌};
-ghost use Rattle.ring_core.specs.Machine.{all_free as all_free_word};
+ghost use Rattle.permit_ring.specs.{all_free as all_free_word, IsSized};
 
 use crate::freight::{Freight, Running};
 use crate::memo::{Key, Slot, View};
@@ -37,8 +37,6 @@ pub struct Ring<F: Freight> {
 }
 
 impl<F: Freight> Ring<F> {
-    ghost use Rattle.permit_ring.specs.Seats.{IsSized};
-
     // A ticket's position. Where their number is a power of two, it is told without a division.
     pub(crate) fn position_of(&self, ticket: u64) -> usize
         requires { IsSized self.now }

@@ -1,7 +1,6 @@
 //! One who claims positions of a ring.
-ghost use Rattle.std.specs.Prelude.{◌≡◌, ◌+◌, ◌<◌, ◌≤◌, ◌^◌, false, None, Some, is_none, ℕ};
-ghost use Rattle.ring_core.specs.Machine.{marks_of};
-ghost use Rattle.permit_ring.specs.{ClaimTells, claimed_at, ticket_got, IsOrdered, finishes, adds_mark};
+ghost use Rattle.std.specs.Prelude.{◌≡◌, ◌+◌, ◌<◌, ◌≤◌, ◌^◌};
+ghost use Rattle.permit_ring.specs.{false, None, Some, is_none, ℕ, marks_of, ClaimTells, claimed_at, ticket_got, IsOrdered, finishes, adds_mark, IsSeatOf, seat_memo, seat_number, seat_calls, seat_ticket, ring_seats, ring_terms};
 
 use crate::answer::Look;
 use crate::freight::Freight;
@@ -39,8 +38,6 @@ impl Look {
 }
 
 impl<F: Freight> Seat<F> {
-    ghost use Rattle.permit_ring.specs.Seats.{IsSeatOf, seat_memo, seat_number, seat_calls, seat_ticket, ring_seats, ring_terms};
-
     /// The seat's number, from 0.
     pub fn number(&self) -> u8
         ensures { result ≡ seat_number self.now }

@@ -1,5 +1,5 @@
 //! What each atomic step tells its seat or the keeper. These types are for the proofs alone.
-ghost use Rattle.permit_ring.specs.Told.{saw_word, claimed_word, finished_value, marked_loss, saw_mark, read_word, tried_offer, swept_loss, split_left, split_right, rest_left, rest_right, release_left, release_right, join_both, join_spent};
+ghost use Rattle.permit_ring.specs.{saw_word, claimed_word, finished_value, marked_loss, saw_mark, read_word, tried_offer, swept_loss, on_keeper, makes, split_right, release_left, release_right, join_both, Spent};
 
 use crate::freight::Freight;
 use crate::memo::{Slot, View};
@@ -14,18 +14,14 @@ impl<O, D, T, N> Play<Slot<O, D>, View<T, N>> for SeesWord {
 }
 
 /// A seat's claim.
-pub struct ClaimsTicket<F> {
-    freight: PhantomData<F>,
-}
+pub struct ClaimsTicket<F>(PhantomData<F>);
 
 impl<F: Freight> Play<Slot<F::Offered, F::Finished>, View<F::Terms, F::Note>> for ClaimsTicket<F> {
     ghost then = { claimed_word F.admits_offered };
 }
 
 /// A seat's finish.
-pub struct Finishes<F> {
-    freight: PhantomData<F>,
-}
+pub struct Finishes<F>(PhantomData<F>);
 
 impl<F: Freight> Play<Slot<F::Offered, F::Finished>, View<F::Terms, F::Note>> for Finishes<F> {
     ghost then = { finished_value F.note };
@@ -39,9 +35,7 @@ impl<O, D, T, N> Play<Slot<O, D>, View<T, N>> for MarksLoss {
 }
 
 /// The keeper's look at the mark of the next ticket.
-pub struct SeesMark<F> {
-    freight: PhantomData<F>,
-}
+pub struct SeesMark<F>(PhantomData<F>);
 
 impl<F: Freight> Play<Slot<F::Offered, F::Finished>, View<F::Terms, F::Note>> for SeesMark<F> {
     ghost then = { saw_mark F.note F.admits_note };
@@ -72,18 +66,19 @@ impl<O, D, T, N> Play<Slot<O, D>, View<T, N>> for Sweeps {
 pub struct Lives;
 
 impl<T, N> Split<View<T, N>> for Lives {
-    ghost left = { split_left };
+    ghost left = { on_keeper makes };
 
     ghost right = { split_right };
 }
 
-/// What is left in the place of a seat that is held.
+/// What is in the place of a seat that is held: a token that knows nothing. To make it changes nothing that the keeper
+/// knows.
 pub struct Rests;
 
 impl<T, N> Split<View<T, N>> for Rests {
-    ghost left = { rest_left };
+    ghost left = { λ v. v };
 
-    ghost right = { rest_right };
+    ghost right = { λ v. Spent };
 }
 
 /// How the keeper releases a seat that it holds.
@@ -98,5 +93,5 @@ impl<T, N> Split<View<T, N>> for GoesOn {
 impl<T, N> Join<View<T, N>> for Lives {
     ghost both = { join_both };
 
-    ghost spent = { join_spent };
+    ghost spent = { Spent };
 }

@@ -1,5 +1,5 @@
 -- A step that changes one seat and leaves its ticket alone keeps what holds of a ring, where the numbers fit.
-use Rattle.ring_core.proofs.Names.{◌≡◌, ℕ, ◌+◌, ◌<◌, ◌≤◌, ◌⊎◌, true, List, length, set, arith, common_steps, length-set, count_by-le-length, LossWord, PermitWord, SeatView, seat_at, with_seat, IsRing, IsSeat, AreSeats, Holds, armed_count, calls_sum, Machine}
+use Rattle.ring_core.proofs.Names.{◌≡◌, ℕ, ◌+◌, ◌<◌, ◌≤◌, ◌⊎◌, List, length, set, arith, common_steps, length-set, count_by-le-length, LossWord, PermitWord, SeatView, seat_at, with_seat, IsRing, IsSeat, AreSeats, Holds, armed_count, calls_sum, Machine}
 use Rattle.ring_core.proofs.SeatLemmas.{one_if, apart_same, mark_same, sums_after, each_after, holders_stay}
 
 -- a seat `old` that becomes `now` with its ticket, beside these vain claims and loss words

@@ -1,11 +1,8 @@
 -- No step changes the sizes of a ring.
-use Rattle.ring_core.proofs.Names.{◌≡◌, ℕ, arith, Step, HasSizes, after, Machine}
+use Rattle.ring_core.proofs.Names.{◌≡◌, arith, Step, HasSizes, after, Machine}
 
 pub same_sizes : (m now : Machine) → now ≡ m → HasSizes m.positions m.limit now
 same_sizes m now e = record { positions_are = cc; limit_is = cc }
-
-pub sizes_on : (n limit : ℕ) (m now : Machine) → HasSizes n limit m → HasSizes m.positions m.limit now → HasSizes n limit now
-sizes_on n limit m now before behind = record { positions_are = cc; limit_is = cc }
 
 pub after_sizes : (m : Machine) (step : Step) → HasSizes m.positions m.limit (after m step)
 after_sizes m step = grind arith

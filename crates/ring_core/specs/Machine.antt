@@ -1,6 +1,6 @@
 -- The ring as a machine: a state is its numbers, and each step is an equation between states.
-use Rattle.std.specs.Prelude.{◌≡◌, ℕ, Result, Ok, Err, ◌+◌, ◌-◌, ◌%◌, ◌^◌, Bool, true, false, ◌&&◌, not, is_some, is_none, nat_lt, nat_le, ◌==◌, if◌then◌else◌, List, [], ◌∷◌, ◌++◌, length, replicate, slice_index_or, slice_set, Option, Some, None, zero, suc}
-use Rattle.ring_core.specs.Names.{LossWord, SeatView, Ticket0, Step, Look, Claim, Finish, See, Read, Offer, Mark, Sweep, Split, Join, Resume, PermitWord}
+use Rattle.std.specs.Prelude.{◌≡◌, ◌+◌, ◌-◌, ◌%◌, ◌^◌, ◌&&◌, ◌==◌, if◌then◌else◌, ◌∷◌, ◌++◌}
+use Rattle.ring_core.specs.Names.{ℕ, Result, Ok, Err, Bool, true, false, not, is_some, is_none, nat_lt, nat_le, List, [], length, replicate, slice_index_or, slice_set, Option, Some, None, zero, suc, LossWord, SeatView, Ticket0, Step, Look, Claim, Finish, See, Read, Offer, Mark, Sweep, Split, Join, Resume, PermitWord}
 
 -- a state of the ring
 pub record Machine : Type 0 where

@@ -1,9 +1,9 @@
 -- Lists of steps.
-use Rattle.std.specs.Prelude.{◌≡◌, ℕ, ◌+◌, ◌<◌, List, [], ◌∷◌, length, take, IsSome, Option, Some, None, Result, Ok, Err}
+use Rattle.std.specs.Prelude.{◌≡◌, ◌+◌, ◌<◌, ◌∷◌}
+use Rattle.ring_core.specs.Names.{ℕ, List, [], length, take, IsSome, Option, Some, None, Result, Ok, Err, Step}
 use Rattle.std.specs.Option.{option_and_then}
 use Rattle.ring_core.specs.declared.fault.RunFault.{RunFault}
 use Rattle.ring_core.specs.declared.fault.RunFault.TheVariants.{NotPossible, NoMemory}
-use Rattle.ring_core.specs.Names.{Step}
 use Rattle.ring_core.specs.Machine.{Machine, next}
 
 -- the state after all steps, where each is possible in turn

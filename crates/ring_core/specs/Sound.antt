@@ -1,6 +1,6 @@
 -- What holds of a ring between any two steps.
-use Rattle.std.specs.Prelude.{◌≡◌, ℕ, ◌+◌, ◌%◌, ◌^◌, ◌<◌, ◌≤◌, IsTrue, IsSome, List, length, count_by, sum_by, Some, None}
-use Rattle.ring_core.specs.Names.{SeatView, PermitWord}
+use Rattle.std.specs.Prelude.{◌≡◌, ◌+◌, ◌%◌, ◌^◌, ◌<◌, ◌≤◌}
+use Rattle.ring_core.specs.Names.{ℕ, IsTrue, IsSome, List, length, count_by, sum_by, Some, None, SeatView, PermitWord}
 use Rattle.ring_core.specs.Machine.{Machine, seat_at, mark_at}
 use Rattle.ring_core.specs.Words.{tries_of, field_of, FreeOrOver}
 

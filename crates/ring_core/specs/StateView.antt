@@ -1,5 +1,6 @@
 -- What contracts see of a `RingState`.
-use Rattle.std.specs.Prelude.{◌≤◌, vec_capacity}
+use Rattle.std.specs.Prelude.{◌≤◌}
+use Rattle.ring_core.specs.Names.{vec_capacity}
 use Rattle.ring_core.specs.declared.state.RingState.TheInside.{Inside}
 use Rattle.ring_core.specs.Machine.{Machine}
 use Rattle.ring_core.specs.Sound.{IsRing}

@@ -1,6 +1,6 @@
 -- The permit word of a ring: the claims and the free positions, as one number of 64 bits.
-use Rattle.std.specs.Prelude.{◌≡◌, ℕ, ◌+◌, ◌-◌, ◌*◌, ◌/◌, ◌%◌, ◌^◌, ◌<◌, ◌≤◌, ◌⊎◌, nat_le, if◌then◌else◌}
-use Rattle.ring_core.specs.Names.{PermitWord}
+use Rattle.std.specs.Prelude.{◌≡◌, ◌+◌, ◌-◌, ◌*◌, ◌/◌, ◌%◌, ◌^◌, ◌<◌, ◌≤◌, ◌⊎◌, if◌then◌else◌}
+use Rattle.ring_core.specs.Names.{ℕ, nat_le, PermitWord}
 
 -- all claim steps that the word counts, the vain ones since the last offer among them
 abbrev pub tries_of : PermitWord → ℕ

@@ -1,8 +1,8 @@
 //! What holds of every ring, as the contracts of functions that do nothing.
 
-ghost use Rattle.std.specs.Prelude.{◌≡◌, ◌+◌, ◌%◌, ◌<◌, ◌≤◌, IfSome, IsFalse};
+ghost use Rattle.std.specs.Prelude.{◌≡◌, ◌+◌, ◌%◌, ◌<◌, ◌≤◌};
+ghost use Rattle.ring_core.specs.{IfSome, IsFalse, opening, next, same_word, after_all, IsRing, tries_of, field_of, IsPackable};
 ghost use Rattle.ring_core.specs.Machine.{Machine};
-ghost use Rattle.ring_core.specs.{opening, next, same_word, after_all, IsRing, tries_of, field_of, IsPackable};
 
 use crate::step::Step;
 

@@ -1,7 +1,7 @@
 //! Making a list of steps.
 
-ghost use Rattle.std.specs.Prelude.{◌≡◌, ◌≤◌, IfOk};
-ghost use Rattle.ring_core.specs.{HasSizes, opening, RunAnswers, IsRing};
+ghost use Rattle.std.specs.Prelude.{◌≡◌, ◌≤◌};
+ghost use Rattle.ring_core.specs.{IfOk, HasSizes, opening, RunAnswers, IsRing};
 
 use crate::fault::RunFault;
 use crate::state::RingState;

@@ -1,6 +1,7 @@
 //! One caller of a ring, as the machine sees it.
 
 ghost use Rattle.std.specs.Prelude.{◌≡◌, ◌<◌, ◌^◌};
+ghost use Rattle.ring_core.specs.{nobody, new_seat, is_idle, marks_of, marked};
 
 /// A ticket: the number of a claim, from 0. Ticket t stands at position `t mod n`.
 #[derive(Clone, Copy, Debug, PartialEq, Eq)]
@@ -19,8 +20,6 @@ pub struct SeatView {
 }
 
 impl SeatView {
-    ghost use Rattle.ring_core.specs.Machine.{nobody, new_seat, is_idle, marks_of, marked};
-
     /// A seat that was never made.
     pub(crate) fn nobody() -> SeatView
         ensures { result ≡ nobody }

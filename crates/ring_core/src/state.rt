@@ -1,7 +1,8 @@
 //! The ring as a machine: its state, and one step of it.
 
-ghost use Rattle.std.specs.Prelude.{◌≡◌, ◌+◌, ◌<◌, ◌≤◌, length, IfOk, OnErr, MatchResult, Some, None};
-ghost use Rattle.ring_core.specs.{opening, next, HasSizes, StepAnswers, seat_at, mark_at, loss_at, IsRing};
+ghost use Rattle.std.specs.Prelude.{◌≡◌, ◌+◌, ◌<◌, ◌≤◌};
+ghost use Rattle.ring_core.specs.{length, IfOk, OnErr, MatchResult, Some, None, opening, next, HasSizes, StepAnswers, seat_at, mark_at, loss_at, IsRing, machine_of, IsKept};
+ghost use Rattle.ring_core.specs.Machine.{Machine};
 
 use crate::loss::LossWord;
 use crate::memory::NoMemory;
@@ -30,11 +31,7 @@ pub struct RingState {
 }
 
 impl Model for RingState {
-    ghost use Rattle.ring_core.specs.Machine.{Machine};
-
     ghost Value = { Machine };
-
-    ghost use Rattle.ring_core.specs.StateView.{machine_of, IsKept};
 
     ghost view = { machine_of };
 

@@ -1,7 +1,7 @@
 //! The shared word of a ring, packed and unpacked.
 
 ghost use Rattle.std.specs.Prelude.{◌≡◌};
-ghost use Rattle.ring_core.specs.Words.{packed, unpacked, IsPackable, IsReadable};
+ghost use Rattle.ring_core.specs.{packed, unpacked, IsPackable, IsReadable};
 
 /// The numbers that a ring shares in one atomic word: how many claims got a position, how many
 /// positions are free, and how many claims since the last offer found none free.

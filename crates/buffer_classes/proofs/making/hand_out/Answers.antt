@@ -1,5 +1,4 @@
-use Rattle.buffer_classes.proofs.Names.{◌≡◌, [], arith, sym, refl, append-nil, at_index, GetsOne, there, some, common_steps, get_elem?}
-use Rattle.buffer_classes.proofs.{all_from, last_taken, none_from}
+use Rattle.buffer_classes.proofs.{◌≡◌, [], arith, sym, refl, append-nil, at_index, GetsOne, there, some, common_steps, get_elem?, all_from, last_taken, none_from}
 use Rattle.buffer_classes.proofs.making.hand_out.Goals.{After-index_mut}
 use Rattle.buffer_classes.proofs.making.hand_out.Goals as goal
 

@@ -1,5 +1,4 @@
-use Rattle.buffer_classes.proofs.Names.{◌≡◌, ◌++◌, List, length, GetsSeat, ClassSeat, AllOf}
-use Rattle.buffer_classes.proofs.ByIndexLemmas.{From}
+use Rattle.buffer_classes.proofs.{◌≡◌, ◌++◌, List, length, GetsSeat, ClassSeat, AllOf, From}
 use Rattle.buffer_classes.proofs.making.hand_out.Given as goal
 
 abbrev pub invariant-loop-seat : goal.invariant-loop-seat

@@ -1,5 +1,4 @@
-use Rattle.buffer_classes.proofs.Names.{◌≡◌, ◌+◌, ◌∙◌, arith, length, take, get_or_default, length-take-le, take_more, at_index, common_steps}
-use Rattle.buffer_classes.proofs.MakingLemmas.{as_many, class_made, rise_taken}
+use Rattle.buffer_classes.proofs.{◌≡◌, ◌+◌, ◌∙◌, arith, length, take, get_or_default, length-take-le, take_more, at_index, common_steps, as_many, class_made, rise_taken}
 use Rattle.buffer_classes.proofs.making.make.Goals as goal
 
 pub make_class-requires-clause-spec : goal.make_class-requires-clause-spec

@@ -1,5 +1,4 @@
-use Rattle.permit_ring.proofs.Names.{arith}
-use Rattle.permit_ring.proofs.HandLemmas.{turned_more}
+use Rattle.permit_ring.proofs.{arith, turned_more}
 use Rattle.permit_ring.proofs.keeper.turn_hand.Goals as goal
 
 pub loop-preserved : goal.loop-preserved

@@ -1,5 +1,4 @@
-use Rattle.permit_ring.proofs.Names.{arith}
-use Rattle.permit_ring.proofs.{there, place_from}
+use Rattle.permit_ring.proofs.{arith, there, place_from}
 use Rattle.permit_ring.proofs.laws.each_ticket_has_one_place.Goals as goal
 
 pub returns : goal.returns

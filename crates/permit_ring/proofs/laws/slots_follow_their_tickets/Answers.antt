@@ -1,6 +1,4 @@
-use Rattle.permit_ring.proofs.Names.{arith}
-use Rattle.permit_ring.proofs.{fate_of, logged_is_claimed, machine_holds, open_of, ring_of}
-use Rattle.permit_ring.proofs.States.{one_turn_ahead}
+use Rattle.permit_ring.proofs.{arith, fate_of, logged_is_claimed, machine_holds, open_of, ring_of, one_turn_ahead}
 use Rattle.permit_ring.proofs.laws.slots_follow_their_tickets.Goals as goal
 
 pub returns : goal.returns

@@ -1,5 +1,4 @@
-use Rattle.permit_ring.proofs.Names.{arith, ◌∙◌, [], refl, mod-eq_of_lt, KeepsInHand, add-mod_right}
-use Rattle.permit_ring.proofs.{none_filled, opens_running, untouched}
+use Rattle.permit_ring.proofs.{arith, ◌∙◌, [], refl, mod-eq_of_lt, KeepsInHand, add-mod_right, none_filled, opens_running, untouched}
 use Rattle.permit_ring.proofs.making.make.Goals as goal
 
 pub new-requires : goal.new-requires

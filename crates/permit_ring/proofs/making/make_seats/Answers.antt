@@ -1,5 +1,4 @@
-use Rattle.permit_ring.proofs.Names.{arith, rules, ℕ, ap, sym, add-one, ◌∙◌, keeper_in, IsNewSeat, made_memo}
-use Rattle.permit_ring.proofs.{splits_allowed, untouched, one_seat_more}
+use Rattle.permit_ring.proofs.{arith, rules, ℕ, ap, sym, add-one, ◌∙◌, keeper_in, IsNewSeat, made_memo, splits_allowed, untouched, one_seat_more}
 use Rattle.permit_ring.proofs.making.make_seats.Goals as goal
 
 pub split_seat-seat-requires : goal.split_seat-seat-requires

@@ -1,5 +1,4 @@
-use Rattle.ring_core.proofs.Names.{arith, opening}
-use Rattle.ring_core.proofs.{one_more, run_stops}
+use Rattle.ring_core.proofs.{arith, opening, one_more, run_stops}
 use Rattle.ring_core.proofs.running.run.Goals as goal
 
 pub loop-at-preserved : goal.loop-at-preserved

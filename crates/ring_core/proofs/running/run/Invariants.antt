@@ -1,5 +1,4 @@
-use Rattle.ring_core.proofs.Names.{take, opening}
-use Rattle.ring_core.proofs.Runs.{IsReached}
+use Rattle.ring_core.proofs.{take, opening, IsReached}
 use Rattle.ring_core.proofs.running.run.Given as goal
 
 -- the ring is what the steps so far lead to

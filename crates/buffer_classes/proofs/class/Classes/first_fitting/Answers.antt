@@ -1,6 +1,5 @@
-use Rattle.buffer_classes.proofs.Names.{arith, ◌≡◌, length, nat_tests}
+use Rattle.buffer_classes.proofs.{arith, ◌≡◌, length, nat_tests, fits_at}
 use Rattle.std.proofs.Math.Seq.{drop-length}
-use Rattle.buffer_classes.proofs.FittingLemmas.{fits_at}
 use Rattle.buffer_classes.proofs.class.Classes.first_fitting.Goals as goal
 
 pub returns-then-index-len : goal.returns-then-index-len

@@ -1,5 +1,4 @@
-use Rattle.buffer_classes.proofs.Names.{◌≡◌, ◌+◌, class_sizes, first_fitting}
-use Rattle.buffer_classes.proofs.FittingLemmas.{first_from}
+use Rattle.buffer_classes.proofs.{◌≡◌, ◌+◌, class_sizes, first_fitting, first_from}
 use Rattle.buffer_classes.proofs.class.Classes.first_fitting.Given as goal
 
 -- the first that fits is one of those that are left

@@ -1,5 +1,4 @@
-use Rattle.buffer_classes.proofs.Names.{◌∷◌, ◌∙◌, arith, append_assoc, length_push}
-use Rattle.buffer_classes.proofs.GiveLemmas.{admitted_before, admitted_last}
+use Rattle.buffer_classes.proofs.{◌∷◌, ◌∙◌, arith, append_assoc, length_push, admitted_before, admitted_last}
 use Rattle.buffer_classes.proofs.giver.Giver.put_late.Goals as goal
 
 pub refill-requires-clause-admitted : goal.refill-requires-clause-admitted

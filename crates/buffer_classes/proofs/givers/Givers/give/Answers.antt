@@ -1,5 +1,5 @@
-use Rattle.buffer_classes.proofs.Names.{◌<◌, ◌∙◌, length, refl, arith, at_index, nil_from_length, class_sizes, class_count, givers_of, IsBufferIn, Begins, Puts, Giver, at_length}
-use Rattle.buffer_classes.proofs.{admitted_before, admitted_last, all_below, all_put, all_then, buffer_there, gave_back, giver_there, givers_below, givers_with, many_sizes, one_put}
+use Rattle.buffer_classes.proofs.{◌<◌, ◌∙◌, length, refl, arith, at_index, nil_from_length, class_sizes, class_count, givers_of, IsBufferIn, Begins, Puts, at_length, admitted_before, admitted_last, all_below, all_put, all_then, buffer_there, gave_back, giver_there, givers_below, givers_with, many_sizes, one_put}
+use Rattle.buffer_classes.proofs.Names.{Giver}
 use Rattle.buffer_classes.proofs.givers.Givers.give.Goals.{In-Some}
 use Rattle.buffer_classes.proofs.givers.Givers.give.Goals as goal
 

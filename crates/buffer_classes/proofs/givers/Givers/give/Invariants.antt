@@ -1,5 +1,4 @@
-use Rattle.buffer_classes.proofs.Names.{◌≡◌, length, vec_capacity, AllOf, class_sizes, AreBuffersIn, AreGiversOf, Begins, Offers, givers_of}
-use Rattle.buffer_classes.proofs.{Below, PutsSome}
+use Rattle.buffer_classes.proofs.{◌≡◌, length, vec_capacity, AllOf, class_sizes, AreBuffersIn, AreGiversOf, Begins, Offers, givers_of, Below, PutsSome}
 use Rattle.buffer_classes.proofs.givers.Givers.give.Given as goal
 
 -- the classes before this one were begun

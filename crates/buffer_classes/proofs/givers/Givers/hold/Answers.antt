@@ -1,6 +1,4 @@
-use Rattle.buffer_classes.proofs.Names.{◌≡◌, ◌∙◌, ◌<◌, length, refl, sym, arith, at_index, some, get_elem?, givers_of, IsHisSeat}
-use Rattle.buffer_classes.proofs.{all_below, below_more, class_there, giver_there, givers_below, held_claimant, still}
-use mathlib.Core.Option.{some-injective}
+use Rattle.buffer_classes.proofs.{◌≡◌, ◌∙◌, ◌<◌, length, refl, sym, arith, at_index, some, get_elem?, givers_of, IsHisSeat, some-injective, all_below, below_more, class_there, giver_there, givers_below, held_claimant, still}
 use Rattle.buffer_classes.proofs.givers.Givers.hold.Goals.{After-index_mut-in-loop-class as In-Loop}
 use Rattle.buffer_classes.proofs.givers.Givers.hold.Goals as goal
 

@@ -1,5 +1,4 @@
-use Rattle.buffer_classes.proofs.Names.{◌≡◌, vec_capacity, AllOf, AreGiversOf, Welcomed, givers_of}
-use Rattle.buffer_classes.proofs.{Below, Held}
+use Rattle.buffer_classes.proofs.{◌≡◌, vec_capacity, AllOf, AreGiversOf, Welcomed, givers_of, Below, Held}
 use Rattle.buffer_classes.proofs.givers.Givers.hold.Given as goal
 
 -- the seats before this one are held

@@ -1,9 +1,6 @@
-use Rattle.buffer_classes.proofs.Names.{◌≡◌, ◌∙◌, ◌<◌, length, refl, sym, arith, at_index, at_length, some, get_elem?, giver_memo, givers_of, ClaimSeat, there}
-use Rattle.std.specs.Prelude.{Some}
+use Rattle.buffer_classes.proofs.{◌≡◌, ◌∙◌, ◌<◌, length, refl, sym, arith, at_index, at_length, some, get_elem?, giver_memo, givers_of, there, Some, some-injective, first_back, all_below, below_more, class_there, giver_there, givers_with, goes_on_as, freed_more, still}
+use Rattle.buffer_classes.proofs.Names.{ClaimSeat}
 use Rattle.std.specs.Vec.{with_item}
-use mathlib.Core.Option.{some-injective}
-use Rattle.permit_ring.specs.{first_back}
-use Rattle.buffer_classes.proofs.{all_below, below_more, class_there, giver_there, givers_with, goes_on_as, freed_more, still}
 use Rattle.buffer_classes.proofs.givers.Givers.release.Goals.{After-index_mut-in-loop-class as In-Loop}
 use Rattle.buffer_classes.proofs.givers.Givers.release.Goals as goal
 

@@ -1,5 +1,4 @@
-use Rattle.buffer_classes.proofs.Names.{◌≡◌, vec_capacity, AllOf, AreGiversOf, Freed, givers_of}
-use Rattle.buffer_classes.proofs.{Below, GoneOn}
+use Rattle.buffer_classes.proofs.{◌≡◌, vec_capacity, AllOf, AreGiversOf, Freed, givers_of, Below, GoneOn}
 use Rattle.buffer_classes.proofs.givers.Givers.release.Given as goal
 
 -- the seats before this one went on

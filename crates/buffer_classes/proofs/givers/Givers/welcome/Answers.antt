@@ -1,5 +1,4 @@
-use Rattle.buffer_classes.proofs.Names.{◌≡◌, ◌<◌, [], refl, arith, at_index, length, sym, append-nil, givers_of, Takes, common_steps}
-use Rattle.buffer_classes.proofs.{all_from, class_there, giver_there, givers_with, last_left, last_taken, none_from}
+use Rattle.buffer_classes.proofs.{◌≡◌, ◌<◌, [], refl, arith, at_index, length, sym, append-nil, givers_of, Takes, common_steps, all_from, class_there, giver_there, givers_with, last_left, last_taken, none_from}
 use Rattle.buffer_classes.proofs.givers.Givers.welcome.Goals as goal
 
 pub loop-its-init : goal.loop-its-init

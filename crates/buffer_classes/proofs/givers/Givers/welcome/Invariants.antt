@@ -1,5 +1,4 @@
-use Rattle.buffer_classes.proofs.Names.{◌≡◌, ◌++◌, List, length, AreGiversOf, Welcomed, givers_of, ClassSeat, AllOf}
-use Rattle.buffer_classes.proofs.ByIndexLemmas.{From}
+use Rattle.buffer_classes.proofs.{◌≡◌, ◌++◌, List, length, AreGiversOf, Welcomed, givers_of, ClassSeat, AllOf, From}
 use Rattle.buffer_classes.proofs.givers.Givers.welcome.Given as goal
 
 abbrev pub invariant-loop-its : goal.invariant-loop-its

@@ -1,6 +1,4 @@
-use Rattle.buffer_classes.proofs.Names.{refl, arith, class_sizes, common_steps}
-use Rattle.buffer_classes.specs.declared.seat.Claim.TheVariants as claims
-use Rattle.buffer_classes.proofs.{asked_none, first_within, got, in_vain, leaves, seat_ready, many_sizes}
+use Rattle.buffer_classes.proofs.{NoneFree, refl, arith, class_sizes, common_steps, asked_none, first_within, got, in_vain, leaves, seat_ready, many_sizes}
 use Rattle.buffer_classes.proofs.seat.ClaimSeat.claim_noting.Goals as goal
 
 pub loop-place-init : goal.loop-place-init
@@ -24,4 +22,4 @@ returns c =
     let is = c.loop-place.invariant in
     let many = many_sizes c.args.classes.now in
     let within = first_within c.args.len (class_sizes c.args.classes.now) in
-    leaves c.requires.mine c.args.len (claims.NoneFree c.loop-place.looks) _ is.number_is is.claims_are is.room_is is.asked (omega arith) is.small (omega arith)
+    leaves c.requires.mine c.args.len (NoneFree c.loop-place.looks) _ is.number_is is.claims_are is.room_is is.asked (omega arith) is.small (omega arith)

@@ -1,6 +1,4 @@
-use Rattle.permit_ring.proofs.Names.{◌≡◌, ◌∙◌, ap, true, arith, rules, common_steps, is_idle, seat_memo}
-use Rattle.permit_ring.proofs.Holding.{blanks_allowed}
-use Rattle.permit_ring.proofs.Lives.{joins_allowed}
+use Rattle.permit_ring.proofs.{◌≡◌, ◌∙◌, ap, true, arith, rules, common_steps, is_idle, seat_memo, blanks_allowed, joins_allowed}
 use Rattle.permit_ring.proofs.keeper.Keeper.hold.Goals as goal
 
 pub split_seat-blank-requires : goal.split_seat-blank-requires

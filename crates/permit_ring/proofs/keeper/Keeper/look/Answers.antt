@@ -1,5 +1,4 @@
-use Rattle.permit_ring.proofs.Names.{rules}
-use Rattle.permit_ring.proofs.KeeperSteps.{read_ready}
+use Rattle.permit_ring.proofs.{rules, read_ready}
 use Rattle.permit_ring.proofs.keeper.Keeper.look.Goals as goal
 
 pub load-number-requires : goal.load-number-requires

@@ -1,5 +1,4 @@
-use Rattle.permit_ring.proofs.Names.{arith, ℕ, ◌+◌, ◌%◌, sym, ap, ap₂, ◌∙◌}
-use Rattle.permit_ring.proofs.KeeperSteps.{see_ready}
+use Rattle.permit_ring.proofs.{arith, ℕ, ◌+◌, ◌%◌, sym, ap, ap₂, ◌∙◌, see_ready}
 use Rattle.permit_ring.proofs.keeper.Keeper.read_mark.Goals as goal
 
 pub load-requires : goal.load-requires

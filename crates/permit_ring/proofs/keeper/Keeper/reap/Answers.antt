@@ -1,5 +1,4 @@
-use Rattle.permit_ring.proofs.Names.{arith, ℕ, ◌+◌, ◌%◌, sym, ap, ap₂, ◌∙◌, length_push, Finished, keeper_memo, add-mod_right, mod-add-mod}
-use Rattle.permit_ring.proofs.{hand_reaped, in_front}
+use Rattle.permit_ring.proofs.{arith, ℕ, ◌+◌, ◌%◌, sym, ap, ap₂, ◌∙◌, length_push, Finished, keeper_memo, add-mod_right, mod-add-mod, hand_reaped, in_front}
 use Rattle.permit_ring.proofs.keeper.Keeper.reap.Goals as goal
 
 pub exchange-old-requires : goal.exchange-old-requires

@@ -1,5 +1,4 @@
-use Rattle.permit_ring.proofs.Names.{arith, ◌+◌, refl, sym, ap, ◌∙◌, Empty, keeper_memo, first_slot, mod-add-mod}
-use Rattle.permit_ring.proofs.HandLemmas.{hand_length, in_front, one_more_filled, vacant_fit, turned_to}
+use Rattle.permit_ring.proofs.{arith, ◌+◌, refl, sym, ap, ◌∙◌, Empty, keeper_memo, first_slot, mod-add-mod, hand_length, in_front, one_more_filled, vacant_fit, turned_to}
 use Rattle.permit_ring.proofs.keeper.Keeper.refill.Goals as goal
 
 pub turn_hand-requires : goal.turn_hand-requires

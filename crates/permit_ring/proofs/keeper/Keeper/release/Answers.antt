@@ -1,5 +1,4 @@
-use Rattle.permit_ring.proofs.Names.{rules}
-use Rattle.permit_ring.proofs.Holding.{releases_allowed}
+use Rattle.permit_ring.proofs.{rules, releases_allowed}
 use Rattle.permit_ring.proofs.keeper.Keeper.release.Goals as goal
 
 pub split_seat-place-requires : goal.split_seat-place-requires

@@ -1,5 +1,4 @@
-use Rattle.permit_ring.proofs.Names.{rules}
-use Rattle.permit_ring.proofs.KeeperSteps.{sweep_ready}
+use Rattle.permit_ring.proofs.{rules, sweep_ready}
 use Rattle.permit_ring.proofs.keeper.Keeper.sweep.Goals as goal
 
 pub swap-requires : goal.swap-requires

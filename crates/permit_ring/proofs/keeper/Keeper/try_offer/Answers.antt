@@ -1,5 +1,4 @@
-use Rattle.permit_ring.proofs.Names.{arith, rules}
-use Rattle.permit_ring.proofs.{hand_offered, ready_is, offer_ready}
+use Rattle.permit_ring.proofs.{arith, rules, hand_offered, ready_is, offer_ready}
 use Rattle.permit_ring.proofs.keeper.Keeper.try_offer.Goals as goal
 
 pub compare_exchange-found-requires : goal.compare_exchange-found-requires

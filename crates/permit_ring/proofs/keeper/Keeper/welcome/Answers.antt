@@ -1,5 +1,4 @@
-use Rattle.permit_ring.proofs.Names.{◌≡◌, true, arith, rules, common_steps, is_idle, seat_memo}
-use Rattle.permit_ring.proofs.Lives.{joins_allowed}
+use Rattle.permit_ring.proofs.{◌≡◌, true, arith, rules, common_steps, is_idle, seat_memo, joins_allowed}
 use Rattle.permit_ring.proofs.keeper.Keeper.welcome.Goals as goal
 
 pub join_seat-requires : goal.join_seat-requires

@@ -1,5 +1,4 @@
-use Rattle.permit_ring.proofs.Names.{◌≡◌, ℕ, ◌-◌, ◌+◌, ◌%◌, ◌^◌, ◌<◌, refl, sym, ◌∙◌, ap, arith, count_ones}
-use Rattle.std.proofs.Common.{◌*◌}
+use Rattle.permit_ring.proofs.Names.{◌≡◌, ℕ, ◌-◌, ◌+◌, ◌%◌, ◌^◌, ◌<◌, refl, sym, ◌∙◌, ap, arith, count_ones, ◌*◌}
 use Rattle.std.proofs.lemmas.Nat.{and_mask, leading_top, ones_cat, ones_le_self, zero_from_ones}
 use Rattle.permit_ring.proofs.ring.Ring.position_of.Goals as goal
 use lib.Bits.{bit_and}

@@ -1,5 +1,4 @@
-use Rattle.permit_ring.proofs.Names.{rules, seat_in, sym, ◌∙◌, arith, common_steps}
-use Rattle.permit_ring.proofs.SeatSteps.{look_ready, claim_ready}
+use Rattle.permit_ring.proofs.{rules, seat_in, sym, ◌∙◌, arith, common_steps, look_ready, claim_ready}
 use Rattle.permit_ring.proofs.seat.Seat.claim.Goals as goal
 
 pub load-number-requires : goal.load-number-requires

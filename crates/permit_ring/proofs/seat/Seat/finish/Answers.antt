@@ -1,5 +1,4 @@
-use Rattle.permit_ring.proofs.Names.{rules, ap, ◌∙◌, Offered, machine_ticket}
-use Rattle.permit_ring.proofs.SeatSteps.{finish_ready}
+use Rattle.permit_ring.proofs.{rules, ap, ◌∙◌, Offered, machine_ticket, finish_ready}
 use Rattle.permit_ring.proofs.seat.Seat.finish.Goals as goal
 
 pub exchange-old-requires : goal.exchange-old-requires

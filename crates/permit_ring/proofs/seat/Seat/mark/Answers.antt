@@ -1,5 +1,4 @@
-use Rattle.permit_ring.proofs.Names.{rules}
-use Rattle.permit_ring.proofs.SeatSteps.{mark_ready}
+use Rattle.permit_ring.proofs.{rules, mark_ready}
 use Rattle.permit_ring.proofs.seat.Seat.mark.Goals as goal
 
 pub fetch_add-requires : goal.fetch_add-requires

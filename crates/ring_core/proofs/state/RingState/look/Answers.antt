@@ -1,5 +1,4 @@
-use Rattle.ring_core.proofs.Names.{rules, Look}
-use Rattle.ring_core.proofs.Runs.{step_sound}
+use Rattle.ring_core.proofs.{rules, Look, step_sound}
 use Rattle.ring_core.proofs.state.RingState.look.Goals as goal
 
 pub invariant_of-self : goal.invariant_of-self

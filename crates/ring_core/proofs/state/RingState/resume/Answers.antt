@@ -1,5 +1,4 @@
-use Rattle.ring_core.proofs.Names.{rules, Resume}
-use Rattle.ring_core.proofs.Runs.{step_sound}
+use Rattle.ring_core.proofs.{rules, Resume, step_sound}
 use Rattle.ring_core.proofs.state.RingState.resume.Goals as goal
 
 pub invariant_of-self : goal.invariant_of-self

@@ -1,5 +1,4 @@
-use Rattle.ring_core.proofs.Names.{arith, rules, Split}
-use Rattle.ring_core.proofs.Runs.{step_sound}
+use Rattle.ring_core.proofs.{arith, rules, Split, step_sound}
 use Rattle.ring_core.proofs.state.RingState.split.Goals as goal
 
 pub invariant_of-self : goal.invariant_of-self
