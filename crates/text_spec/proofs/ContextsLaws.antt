@@ -1,9 +1,8 @@
 -- The fields of the texts keep the laws of a field.
-use Rattle.text_spec.proofs.Names.{◌≡◌, ◌<◌, ◌≤◌, ◌==◌, ◌∷◌, ◌^◌, if◌then◌else◌, is_ascii_digit, digits_value, any_bytes, bytes_in, bytes_word, is_number, capped, ℕ, zero, suc, true, false, inl, inr, List, [], length, map, refl, sym, ap, subst, ◌∙◌, arith, Option, Some, None, IfSome, Stamp, option_map, decimal, bytes_eq, ⊤, w64, to_be_bytes, AllByRecursion, slice_split, join_with_byte, list_all, and_parts, cond-true, eqb-true, join_with_byte-slice_split, same_Some, none-some, cond_some, bytes_eq-Decides, cases_Bool, IsBytes, encode_lower, Carried, Absent, Kept, Missing, colon, point, mark, kept_fields, kept_places, context_word, IsContextWord, IsContext, IsExactContext, kept_in, numbers_in, claims_in, context_in, a_context, the, a_number, a_stamp, a_mode, hex_bytes, words_of_fields, AreWritten, is_lower_digit, some_hex, mode_name, mode_named, all_modes, stamp_in, stamp_text, absent, rules, nat_tests}
+use Rattle.text_spec.proofs.Names.{◌≡◌, ◌<◌, ◌≤◌, ◌==◌, ◌∷◌, ◌^◌, if◌then◌else◌, is_ascii_digit, digits_value, any_bytes, bytes_in, bytes_word, is_number, capped, ℕ, zero, suc, true, false, inl, inr, List, [], length, map, refl, sym, ap, subst, ◌∙◌, arith, Option, Some, None, IfSome, Stamp, option_map, decimal, bytes_eq, ⊤, w64, to_be_bytes, AllByRecursion, slice_split, join_with_byte, list_all, and_parts, cond-true, eqb-true, join_with_byte-slice_split, same_Some, none-some, cond_some, bytes_eq-Decides, cases_Bool, IsBytes, encode_lower, Carried, Absent, Kept, Missing, colon, point, mark, kept_fields, kept_places, context_word, IsContextWord, IsContext, IsExactContext, kept_in, numbers_in, claims_in, context_in, a_context, the, a_number, a_stamp, a_mode, hex_bytes, words_of_fields, AreWritten, is_lower_digit, some_hex, mode_name, mode_named, all_modes, stamp_in, stamp_text, absent, rules, nat_tests, Off, Mode, find}
 use Rattle.text_spec.proofs.FieldsLaws.{Told, IsReading, Lawful, AreLawful, in_word, lawful, simple_lawful, AreReading, reads, fields_are, fields_again, fields_pass}
 use Rattle.text_spec.proofs.FrontLemmas.{bind_some, mapped_some}
 use Rattle.text_spec.proofs.HexadecimalLemmas.{hex_in-encode_lower, hex_not_absent, lower_text, some_hex_takes, some_hex_again}
-use Rattle.text_spec.proofs.ModesLemmas.{named_takes, mode_again}
 use Rattle.text_spec.proofs.NumbersLemmas.{is_number_is, decimal-told, number_again}
 use Rattle.text_spec.proofs.StampsLemmas.{IsBytes-high_first, stamp_takes, stamp_again}
 use Rattle.text_spec.proofs.WordsLemmas.{Pass, all_pass, weaker, split_joined, join_passes}
@@ -15,6 +14,16 @@ the_lawful letter passes = simple_lawful (λ _. ⊤) (λ _. letter) (λ word. if
     (λ word x read. (tt, (bytes_eq-Decides word letter).0 (cond_some (bytes_eq word letter) tt x read).0))
     (λ x held. cond-true _ (Some tt) None ((bytes_eq-Decides letter letter).1 refl))
     (λ x held. passes)
+
+-- a name that was read is the mode's
+pub named_takes : (modes : List Mode) (word : List ℕ) (mode : Mode) → find (λ m. bytes_eq word (mode_name m)) modes ≡ Some mode → word ≡ mode_name mode
+named_takes [] word mode read = absurd (none-some mode read)
+named_takes (one ∷ modes) word mode read = grind (arith, bytes_eq-Decides word (mode_name one), named_takes modes word mode, read)
+
+-- a mode is read from its name, which is a word
+pub mode_again : (mode : Mode) → (mode_named (mode_name mode) ≡ Some mode) × (list_all in_word (mode_name mode) ≡ true)
+mode_again Off = (refl, refl)
+mode_again mode = (refl, refl)
 
 pub mode_lawful : Lawful a_mode
 mode_lawful = simple_lawful (λ _. ⊤) mode_name mode_named

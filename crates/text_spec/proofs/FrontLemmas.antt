@@ -1,14 +1,10 @@
 -- What the steps of a reading found.
-use Rattle.text_spec.proofs.Names.{◌≡◌, refl, ap, Option, Some, None, option_map, same_Some, none-some, ◌>>=◌}
+use Rattle.text_spec.proofs.Names.{◌≡◌, refl, Option, Some, None, option_map, same_Some, none-some, ◌>>=◌}
 
 -- what two steps found
 pub bind_some : {A B : Type 0} (o : Option A) (f : A → Option B) (y : B) → (o >>= f) ≡ Some y → (x : A) × (o ≡ Some x) × (f x ≡ Some y)
 bind_some None f y h = absurd (none-some y h)
 bind_some (Some x) f y h = (x, refl, h)
-
--- the second step takes what the first found
-pub bind_again : {A B : Type 0} (o : Option A) (f : A → Option B) (x : A) → o ≡ Some x → (o >>= f) ≡ f x
-bind_again o f x is = ap (λ p. p >>= f) is
 
 -- the value that a map came from
 pub mapped_some : {A B : Type 0} (f : A → B) (o : Option A) (y : B) → option_map f o ≡ Some y → (x : A) × (o ≡ Some x) × (f x ≡ y)

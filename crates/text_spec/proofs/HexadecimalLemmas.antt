@@ -41,7 +41,7 @@ encode_eight k bytes =
     rw next (ap encode_lower (drop_split bytes (8 * k) (8 * k + 8) (omega arith)) ∙ encode-append (slice_range bytes (8 * k) (8 * k + 8)) (drop (8 * k + 8) bytes))
 
 -- how bytes are written, one after another
-pub ruleset writings = (encode_none, encode_eight, encode_with-drop, encode_step, length-set, common_steps)
+pub ruleset writings = (length_hex, encode_none, encode_eight, encode_with-drop, encode_step, length-set, common_steps)
 
 -- ---- from the text to the bytes
 
@@ -99,7 +99,7 @@ room_read word room n all small text =
     hex_in-text word (take n room) (record { are_bytes = λ k. grind (arith, common_steps, small k); text = text ∙ take_all (2 * n) word (omega (arith, all)) })
 
 -- how bytes are read into a room
-pub ruleset rooms = (encode_none, room_read, common_steps)
+pub ruleset rooms = (encode_none, pair_more, room_read, common_steps)
 
 -- ---- a byte or more
 

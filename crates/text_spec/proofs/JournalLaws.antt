@@ -1,9 +1,40 @@
 -- All lines of a journal: what a text tells is a journal, and each journal is told by its own text.
-use Rattle.text_spec.proofs.Names.{◌≡◌, ◌≤◌, ◌∷◌, ◌++◌, ℕ, List, [], length, map, refl, sym, ap, ◌∙◌, append_assoc, Ok, Err, flat_map, append-nil, Parts, Turn, Past, next, start, AreFaultless, IsJournal, journal_grammar, BadLine, journal_in, Entry, Loss, Told, Line, begins, enters, loses, fields_of, turn_told, lines_told, IsHeld, line_for, line_forms, subst, text_of, AllByRecursion}
+use Rattle.text_spec.proofs.Names.{◌≡◌, ◌≤◌, ◌∷◌, ◌++◌, ℕ, List, [], length, map, refl, sym, ap, ◌∙◌, append_assoc, Ok, Err, flat_map, append-nil, Parts, Turn, Past, next, start, AreFaultless, IsJournal, journal_grammar, BadLine, journal_in, Entry, Loss, Told, Line, begins, enters, loses, fields_of, turn_told, lines_told, IsHeld, line_for, line_forms, subst, text_of, AllByRecursion, Some, None, words_of_fields, AreHeld, AreExact, HasForm, told_in, entry_of, turn_form, report_form, state_form, setting_form, loss_form, told_by, Act, Report, State, SetMode, act_fields}
 use Rattle.text_spec.proofs.JournalFacts.{line_exact, line_grows}
-use Rattle.text_spec.proofs.FieldsLaws.{forms_line}
-use Rattle.text_spec.proofs.JournalForms.{are_forms, line_again, told_is}
+use Rattle.text_spec.proofs.FieldsLaws.{forms_line, AreForms, IsShown, IsTold, first_form, forms_are}
 use Rattle.text_spec.proofs.LinesLaws.{Tells, all_next, is_their_text, text_adds, text_read}
+use Rattle.text_spec.proofs.ContextsLaws.{lawfuls, number_lawful}
+
+-- ---- the forms of a journal
+
+pub are_forms : AreForms fields_of line_forms
+are_forms = search lawfuls depth 40
+
+-- words tell something exactly where they have a form, and are then the line's
+pub told_is : (words : List (List ℕ)) (line : Line) → told_by words ≡ Some line → HasForm line_forms words × IsShown words (fields_of line)
+told_is words line read = subst (IsTold fields_of line_forms words) read (forms_are fields_of line_forms words are_forms)
+
+pub none_has_none : (words : List (List ℕ)) → told_by words ≡ None → HasForm line_forms words → ⊥
+none_has_none words none = subst (IsTold fields_of line_forms words) none (forms_are fields_of line_forms words are_forms)
+
+-- ---- from a line's words to the line
+
+act_again : (caller call : ℕ) (act : Act (List ℕ)) → AreHeld (act_fields caller call act) → AreExact (act_fields caller call act)
+    → told_by (words_of_fields (act_fields caller call act)) ≡ Some (enters (entry_of caller call act))
+act_again caller call (Report event count stamp context) held exact =
+    first_form report_form (caller, (call, (event.0, (count, (stamp, (context, tt)))))) _ are_forms.1.0.laws held.1 exact.1
+act_again caller call (State state) held exact = first_form state_form (caller, (call, (tt, (state, tt)))) _ are_forms.1.1.0.laws held.1 exact.1
+act_again caller call (SetMode event mode) held exact =
+    let no_state : told_in state_form (words_of_fields (act_fields caller call (SetMode event mode))) ≡ None =
+    rw (number_lawful.again caller tt exact.1.0, number_lawful.again call tt exact.1.1.0) refl in
+    rw no_state (first_form setting_form (caller, (call, (tt, (event.0, (mode, tt))))) _ are_forms.1.1.1.0.laws held.1 exact.1)
+
+-- a line is read from its words
+pub line_again : (line : Line) → AreHeld (fields_of line) → AreExact (fields_of line) → told_by (words_of_fields (fields_of line)) ≡ Some line
+line_again (begins head) held exact =
+    first_form turn_form (head.tick, (head.lost_events, (head.lost_contexts, (head.limited, tt)))) _ are_forms.0.laws held.1 exact.1
+line_again (enters entry) held exact = act_again entry.caller entry.call entry.act held exact
+line_again (loses loss) held exact = first_form loss_form (loss.caller, (loss.call, (loss.given, tt))) _ are_forms.1.1.1.1.0.laws held.1 exact.1
 
 -- ---- what lines tell
 

@@ -1,6 +1,5 @@
 -- The last field of a text, after which nothing stands, is read from the whole text.
-use Rattle.text_spec.proofs.Names.{◌≡◌, ℕ, Bool, true, false, List, [], ◌∷◌, sym, ap, subst, ◌∙◌, refl, Option, Some, None, option_map, list_all, join_with_byte-slice_split, Carried, a_context, any_bytes, hex_bytes, bytes_in, context_in, some_hex, is_lower_digit, colon, space, Field, read_by, pieces_of, words_of, ◌>>=◌}
-use Rattle.text_spec.specs.Maybe.{ended}
+use Rattle.text_spec.proofs.Names.{◌≡◌, ℕ, Bool, true, false, List, [], ◌∷◌, sym, ap, subst, ◌∙◌, refl, Option, Some, None, option_map, list_all, join_with_byte-slice_split, Carried, a_context, any_bytes, hex_bytes, bytes_in, context_in, some_hex, is_lower_digit, colon, space, Field, read_by, pieces_of, words_of, ◌>>=◌, ended}
 use Rattle.text_spec.proofs.ContextsLaws.{any_lawful, context_lawful}
 use Rattle.text_spec.proofs.FieldsLaws.{in_word, IsReading, Lawful}
 use Rattle.text_spec.proofs.HexadecimalLemmas.{lower_text, some_hex_takes}

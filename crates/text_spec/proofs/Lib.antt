@@ -5,11 +5,9 @@ pub mod FrontLemmas
 pub mod HexadecimalLemmas
 pub mod JournalFacts
 pub mod JournalFits
-pub mod JournalForms
 pub mod JournalLaws
 pub mod LastLemmas
 pub mod LinesLaws
-pub mod ModesLemmas
 pub mod Names
 pub mod NumberLists
 pub mod NumbersLemmas

@@ -1,8 +1,7 @@
 -- Texts that are read line by line: the steps of a reading, the text of lines without a fault, and what a text that
 -- was read tells, for any grammar.
-use Rattle.text_spec.proofs.Names.{◌≡◌, ◌<◌, ◌+◌, ◌==◌, ◌∷◌, ◌++◌, Grammar, BadLine, at_line, AreFaultless, after_line, at_end, past_in, line_with, Fails, RefusedFor, fault_at, fault_behind, ℕ, suc, List, [], length, map, refl, sym, arith, Option, Some, None, Result, Ok, Err, ⊤, AllByRecursion, eqb-true, join_with_byte-slice_split, length-append, length-slice_split, nil_from_length, AreExact, AreHeld, Filled, line_feed, past_with, pieces_of, space, text_of, words_of, words_of_fields, add-one}
+use Rattle.text_spec.proofs.Names.{◌≡◌, ◌<◌, ◌+◌, ◌==◌, ◌∷◌, ◌++◌, Grammar, BadLine, at_line, AreFaultless, after_line, at_end, past_in, line_with, Fails, RefusedFor, fault_at, fault_behind, ℕ, suc, List, [], length, map, refl, sym, arith, Option, Some, None, Result, Ok, Err, ⊤, AllByRecursion, eqb-true, join_with_byte-slice_split, length-append, length-slice_split, nil_from_length, AreExact, AreHeld, Filled, line_feed, past_with, pieces_of, space, text_of, words_of, words_of_fields, add-one, ◌>>◌, asks}
 use Rattle.text_spec.specs.Lines.{◌>>=◌, after_pieces}
-use Rattle.ids_config.specs.Steps.{◌>>◌, asks}
 use Rattle.ids_config.proofs.StepLemmas.{both_ok, asked}
 use Rattle.text_spec.specs.declared.fault.LineFault.{LineFault}
 use Rattle.text_spec.specs.declared.fault.LineFault.TheVariants as line_faults

@@ -1,6 +1,5 @@
 -- Numbers: the reading of a word against the text of a number.
-use Rattle.text_spec.proofs.Names.{◌≡◌, ℕ, ◌+◌, ◌-◌, ◌*◌, ◌/◌, ◌%◌, ◌^◌, ◌<◌, ◌≤◌, min, true, List, [], ◌∷◌, length, take, get_or, refl, sym, append_assoc, ◌++◌, arith, rules, Some, option_map, decimal, is_ascii_digit, list_all, digits_value, length-append, is_number, number_in, capped, greatest_told, cond_some, nat_tests}
-use Rattle.std.specs.Bool.{Decides}
+use Rattle.text_spec.proofs.Names.{◌≡◌, ℕ, ◌+◌, ◌-◌, ◌*◌, ◌/◌, ◌%◌, ◌^◌, ◌<◌, ◌≤◌, min, true, List, [], ◌∷◌, length, take, get_or, refl, sym, append_assoc, ◌++◌, arith, rules, Some, option_map, decimal, is_ascii_digit, list_all, digits_value, length-append, is_number, number_in, capped, greatest_told, cond_some, nat_tests, Decides}
 use Rattle.std.proofs.lemmas.Fmt.{digits_decimal, digits_value-decimal, decimal-digits_value, first_decimal, decimal_nonempty, decimal_digit, decimal_step, length-decimal-le_wide}
 use Rattle.std.proofs.lemmas.Int.Digits.{digits_value_more}
 use Rattle.std.proofs.lemmas.Str.{digit_value_digit}

@@ -1,7 +1,5 @@
 -- Rounds in lists: the last one, its tick, and the ticks of all.
-use Rattle.text_spec.proofs.Names.{◌≡◌, ◌<◌, ◌≤◌, ◌^◌, ◌∷◌, ◌++◌, leb-true, nat_le, KeepUpFrom, last_tick, round_ticks, is_tick, asked_more, begun_round, ended_at, keep_up, last_from, with_last, AreTicks, Asked, ℕ, zero, suc, true, List, [], length, set, get_or, refl, sym, ap, ◌∙◌, append_assoc, arith, AllByRecursion, flat_map, list_all, le-leb, recursion_from_All, list_all-from_AllPass, Decides-and, All-append, All-from_recursion, All-set}
-use Rattle.std.specs.Bool.{Decides}
-use Rattle.history_spec.specs.Rounds.{Round}
+use Rattle.text_spec.proofs.Names.{◌≡◌, ◌<◌, ◌≤◌, ◌^◌, ◌∷◌, ◌++◌, leb-true, nat_le, KeepUpFrom, last_tick, round_ticks, is_tick, asked_more, begun_round, ended_at, keep_up, last_from, with_last, AreTicks, Asked, ℕ, zero, suc, true, List, [], length, set, get_or, refl, sym, ap, ◌∙◌, append_assoc, arith, AllByRecursion, flat_map, list_all, le-leb, recursion_from_All, list_all-from_AllPass, Decides-and, All-append, All-from_recursion, All-set, Decides, Round}
 use Rattle.text_spec.proofs.JournalFacts.{flat_map-push}
 use Rattle.text_spec.proofs.WordsLemmas.{all_from}
 

@@ -1,7 +1,6 @@
 -- One line of a trace: its reading against its own text, both ways.
-use Rattle.text_spec.proofs.Names.{◌≡◌, ◌∙◌, ◌∷◌, length-map, reports, changes, sets, TraceLine, opens, calls, closes, number_fields, trace_fields, ℕ, List, [], length, map, refl, subst, arith, Option, Some, None, option_map, codes, decimal, AllByRecursion, a_number, the, words_of_fields, AreHeld, AreExact, told_in_one, numbers_in, or_else, first_as}
+use Rattle.text_spec.proofs.Names.{◌≡◌, ◌∙◌, ◌∷◌, length-map, reports, changes, sets, TraceLine, opens, calls, closes, number_fields, trace_fields, ℕ, List, [], length, map, refl, subst, arith, Option, Some, None, option_map, codes, decimal, AllByRecursion, a_number, the, words_of_fields, AreHeld, AreExact, told_in_one, numbers_in, or_else, first_as, asked_report_form, asked_state_form, asked_mode_form, round_end_form, trace_forms, opening_in, trace_told_by}
 use Rattle.text_spec.proofs.FrontLemmas.{bind_some, mapped_some}
-use Rattle.text_spec.specs.TraceForm.{asked_report_form, asked_state_form, asked_mode_form, round_end_form, trace_forms, opening_in, trace_told_by}
 use Rattle.text_spec.proofs.ContextsLaws.{lawfuls, the_lawful, number_lawful, numbers_again, numbers_take}
 use Rattle.text_spec.proofs.FieldsLaws.{AreForms, IsLine, IsReading, IsShown, IsTold, Told, are_line, first_form, forms_are, forms_line, in_word}
 use Rattle.text_spec.proofs.WordsLemmas.{all_pass}

@@ -1,6 +1,5 @@
 -- All lines of a trace: the text of rounds that fit is read as them, and the rounds that a text tells fit.
-use Rattle.text_spec.proofs.Names.{◌≡◌, ◌+◌, ◌<◌, ◌≤◌, ◌^◌, ◌∷◌, ◌++◌, replicate, le-leb, get_or_at, length-replicate, set_at, KeepUpFrom, lines_at, last_tick, round_ticks, is_tick, AreFaultless, PastRounds, no_rounds, last_from, begun_round, asked_more, ended_at, next_rounds, asked_fault, trace_fault_of, trace_grammar, trace_in, MayAsk, IsAllowedRound, AreRounds, Asked, Round, TraceLine, opens, calls, closes, asked_fields, trace_fields, callers_told, round_told, rounds_told, trace_text, ℕ, suc, true, false, List, [], length, map, refl, sym, ap, ◌∙◌, append_assoc, arith, Ok, AllByRecursion, flat_map, append-nil, length-append, length-set, Parts, AreHeld, AreExact, Grammar, a_number, recursion_from_All, nat_tests, All-replicate}
-use Rattle.text_spec.specs.TraceForm.{opening_in}
+use Rattle.text_spec.proofs.Names.{◌≡◌, ◌+◌, ◌<◌, ◌≤◌, ◌^◌, ◌∷◌, ◌++◌, replicate, le-leb, get_or_at, length-replicate, set_at, KeepUpFrom, lines_at, last_tick, round_ticks, is_tick, AreFaultless, PastRounds, no_rounds, last_from, begun_round, asked_more, ended_at, next_rounds, asked_fault, trace_fault_of, trace_grammar, trace_in, MayAsk, IsAllowedRound, AreRounds, Asked, Round, TraceLine, opens, calls, closes, asked_fields, trace_fields, callers_told, round_told, rounds_told, trace_text, ℕ, suc, true, false, List, [], length, map, refl, sym, ap, ◌∙◌, append_assoc, arith, Ok, AllByRecursion, flat_map, append-nil, length-append, length-set, Parts, AreHeld, AreExact, Grammar, a_number, recursion_from_All, nat_tests, All-replicate, opening_in}
 use Rattle.text_spec.proofs.JournalFacts.{sensor_is_there}
 use Rattle.text_spec.proofs.LinesLaws.{AreHeldLines, Leaves, Tells, all_next, leave_more, leave_one, text_adds, text_read}
 use Rattle.text_spec.proofs.TraceFacts.{IsSmall, all_append, all_at, all_set, all_split, all_with_last, last_tick-push, opening_keeps_up, opening_small, keep_split, keep_up_is, small_all, ticks_asked, ticks_ended, ticks_pushed, with_last-push}

@@ -1,6 +1,6 @@
 -- A small trace, and its text as it stands in a file.
-use Rattle.text_spec.proofs.Names.{◌≡◌, ◌∷◌, Off, trace_in, Round, reports, changes, sets, trace_text, List, [], refl, Ok, Err, codes, None, decode_pairs, encode_with}
-use Rattle.ids_config.specs.Parts.{Parts, plain_event}
+use Rattle.text_spec.proofs.Names.{◌≡◌, ◌∷◌, Off, trace_in, Round, reports, changes, sets, trace_text, List, [], refl, Ok, Err, codes, None, decode_pairs, encode_with, Parts}
+use Rattle.ids_config.specs.Parts.{plain_event}
 use Rattle.ids_config.proofs.Plain.{instance_18}
 use Rattle.std.specs.Fmt.{digits}
 use Rattle.text_spec.specs.Lines.{after_pieces}

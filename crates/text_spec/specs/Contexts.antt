@@ -1,9 +1,7 @@
 -- The word of a report's context: `-`, `CLASS:CLAIM:HEX`, or `!` and the numbers that were claimed.
 -- Source: the text formats of this project (docs/FORMATS.md).
 use Rattle.std.specs.Prelude.{◌≡◌, ◌⊎◌, ◌≤◌, ◌==◌, ◌∷◌, if◌then◌else◌}
-use Rattle.text_spec.specs.Below.{ℕ, zero, suc, bytes_eq, List, [], length, map, Option, Some, None, option_map, decimal, ⊤, AllByRecursion, slice_split, join_with_byte}
-use Rattle.ids_types.specs.declared.entry.Carried.{Carried}
-use Rattle.ids_types.specs.declared.entry.Carried.TheVariants.{Absent, Kept, Missing}
+use Rattle.text_spec.specs.Below.{ℕ, zero, suc, bytes_eq, List, [], length, map, Option, Some, None, option_map, decimal, ⊤, AllByRecursion, slice_split, join_with_byte, Carried, Absent, Kept, Missing}
 use Rattle.text_spec.specs.Fields.{Field, Filled, a_number, hex_bytes, put, words_of_fields, AreHeld, AreExact, AreWritten, read_by}
 use Rattle.text_spec.specs.Maybe.{◌>>=◌}
 use Rattle.text_spec.specs.Words.{absent}

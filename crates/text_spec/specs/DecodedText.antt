@@ -6,7 +6,7 @@ use Rattle.ids_frame.specs.declared.context.Form.{Form}
 use Rattle.ids_frame.specs.declared.context.Form.TheVariants.{Short, Long}
 use Rattle.ids_frame.specs.{ContextPart, MessageParts}
 use Rattle.text_spec.specs.Words.{absent, line_of, text_of}
-use Rattle.text_spec.specs.Stamps.{stamp_text}
+use Rattle.text_spec.specs.Hexadecimal.{stamp_text}
 
 -- the letter of a context's form: `s` for the short one, `l` for the long one
 abbrev pub form_letter : Form → ℕ
@@ -27,17 +27,13 @@ shown_signature (Some bytes) = codes "=" ++ encode_lower bytes
 abbrev pub layout_word : ℕ → List ℕ
 layout_word version = if version == 2 then codes "M2" else codes "M"
 
--- the words of the line `M INSTANCE SENSOR EVENT COUNT RESERVED STAMP CONTEXT SIGNATURE`, where `M2` is in
--- place of `M` for a message of the second layout
-abbrev pub message_words : MessageParts → List (List ℕ)
-message_words m =
-    layout_word m.version ∷ decimal m.instance ∷ decimal m.sensor ∷ decimal m.event ∷ decimal m.count
-    ∷ decimal m.reserved ∷ stamp_text m.stamp ∷ shown_context m.context
-    ∷ shown_signature m.signature ∷ []
-
--- the line of a message, without its line feed
+-- the line `M INSTANCE SENSOR EVENT COUNT RESERVED STAMP CONTEXT SIGNATURE` of a message, without its line feed, where
+-- `M2` is in place of `M` for a message of the second layout
 abbrev pub message_line : MessageParts → List ℕ
-message_line m = line_of (message_words m)
+message_line m =
+    line_of (layout_word m.version ∷ decimal m.instance ∷ decimal m.sensor ∷ decimal m.event ∷ decimal m.count
+    ∷ decimal m.reserved ∷ stamp_text m.stamp ∷ shown_context m.context
+    ∷ shown_signature m.signature ∷ [])
 
 -- the lines of messages
 abbrev pub decoded_text : List MessageParts → List ℕ

@@ -2,13 +2,11 @@
 -- how the words of a line are read as its fields, one after another.
 -- Source: the text formats of this project (docs/FORMATS.md).
 use Rattle.std.specs.Prelude.{◌≡◌, ◌<◌, ◌^◌, ◌≤◌, ◌⊎◌, ◌∷◌, ◌++◌, if◌then◌else◌}
-use Rattle.text_spec.specs.Below.{ℕ, true, bytes_eq, List, [], length, Option, Some, None, option_map, IfSome, ⊤, decimal, IsBytes, encode_lower, Mode, Stamp}
-use Rattle.text_spec.specs.Hexadecimal.{some_hex}
+use Rattle.text_spec.specs.Below.{Bor, ℕ, true, bytes_eq, List, [], length, Option, Some, None, option_copied, option_map, IfSome, ⊤, decimal, IsBytes, encode_lower, Mode, Stamp, mode_name, mode_named}
+use Rattle.text_spec.specs.Hexadecimal.{some_hex, stamp_in, stamp_text}
 use Rattle.text_spec.specs.Maybe.{◌>>=◌, first_of, ended, or_else}
-use Rattle.ids_types.specs.ModeNames.{mode_name, mode_named}
 use Rattle.text_spec.specs.Numbers.{is_number, number_in, capped, greatest_told}
-use Rattle.text_spec.specs.Stamps.{stamp_in, stamp_text}
-use Rattle.text_spec.specs.Words.{absent, line_feed, line_of}
+use Rattle.text_spec.specs.Words.{absent, line_feed, line_of, pieces_left, pieces_of}
 
 -- a field of a line
 pub record Field : Type 1 where
@@ -126,6 +124,11 @@ Makes (field ∷ fields) A = field.Value → Makes fields A
 -- the value at the front, and the words after it
 abbrev pub first_as : (field : Field) → List (List ℕ) → Option (field.Value × List (List ℕ))
 first_as field words = first_of words >>= λ w. option_map (λ x. (x, w.1)) (field.reading w.0)
+
+-- what was cut off a text: the number that its first piece is read as, and the text of the pieces after it
+abbrev pub IsNumberOf : ℕ → List ℕ → Option (ℕ × Option (Bor (List ℕ))) → Type 0
+IsNumberOf separator text cut =
+    option_map (λ x. (x.0, pieces_left separator (option_copied x.1))) cut ≡ first_as a_number (pieces_of separator text)
 
 -- what is made of the values of words, where each is read as the field at its place
 abbrev pub read_by : {A : Type 0} → (fields : List Field) → Makes fields A → List (List ℕ) → Option A

@@ -2,8 +2,8 @@
 -- has no form.
 -- Source: the text formats of this project (docs/FORMATS.md).
 use Rattle.std.specs.Prelude.{◌+◌, ◌*◌, ◌^◌, ◌==◌, ◌&&◌, ◌∷◌, ◌++◌}
-use Rattle.text_spec.specs.Below.{ℕ, not, nat_lt, nat_le, Bool, true, List, [], length, replicate, slice_index, slice_set, Result, ⊤, list_all, list_any, Parts, is_sensor, ◌>>◌, asks, Turn, begun, with_entry, entries_of}
-use Rattle.text_spec.specs.JournalText.{Carried, Absent, Kept, Missing, Act, Report, State, SetMode, Entry, TurnHead, Loss, Told, Line, begins, enters, loses}
+use Rattle.text_spec.specs.Below.{ℕ, not, nat_lt, nat_le, Bool, true, List, [], length, replicate, slice_index, slice_set, Result, ⊤, list_all, list_any, Parts, is_sensor, ◌>>◌, asks, Turn, begun, with_entry, entries_of, Carried, Absent, Kept, Missing, Act, Report, State, SetMode, Entry, TurnHead, Loss}
+use Rattle.text_spec.specs.JournalText.{Told, Line, begins, enters, loses}
 
 -- ---- fault 3: ranges
 

@@ -2,11 +2,10 @@
 -- of any length is one; whether it is in its range is not asked here.
 -- Source: the text formats of this project (docs/FORMATS.md).
 use Rattle.std.specs.Prelude.{◌∷◌}
-use Rattle.text_spec.specs.Below.{ℕ, List, [], Option, codes}
-use Rattle.ids_types.specs.declared.names.EventIndex.{EventIndex}
+use Rattle.text_spec.specs.Below.{ℕ, List, [], Option, codes, EventIndex, Act, Report, State, SetMode, Entry}
 use Rattle.text_spec.specs.Contexts.{a_context}
 use Rattle.text_spec.specs.Fields.{Form, the, a_number, a_stamp, a_mode, told_in_one}
-use Rattle.text_spec.specs.JournalText.{Act, Report, State, SetMode, Entry, Line, begins, enters, loses}
+use Rattle.text_spec.specs.JournalText.{Line, begins, enters, loses}
 
 -- the index of an event
 abbrev pub index : ℕ → EventIndex

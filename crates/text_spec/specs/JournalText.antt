@@ -2,13 +2,7 @@
 -- Source: the text formats of this project (docs/FORMATS.md).
 use Rattle.std.specs.Prelude.{◌∷◌, ◌++◌}
 use Rattle.text_spec.specs.Below.{ℕ, List, [], map, codes, flat_map, Turn}
-pub use Rattle.ids_types.specs.declared.entry.Act.TheVariants.{Report, State, SetMode}
-pub use Rattle.ids_types.specs.declared.entry.Act.{Act}
-pub use Rattle.ids_types.specs.declared.entry.Carried.TheVariants.{Absent, Kept, Missing}
-pub use Rattle.ids_types.specs.declared.entry.Carried.{Carried}
-pub use Rattle.ids_types.specs.declared.entry.Entry.{Entry}
-pub use Rattle.ids_types.specs.declared.entry.TurnHead.{TurnHead}
-pub use Rattle.ids_types.specs.declared.loss.Loss.{Loss}
+pub use Rattle.text_spec.specs.Below.{Absent, Act, Carried, Entry, Kept, Loss, Missing, Report, SetMode, State, TurnHead}
 use Rattle.text_spec.specs.Contexts.{a_context}
 use Rattle.text_spec.specs.Fields.{Filled, the, a_number, a_stamp, a_mode, put, line_with}
 use Rattle.text_spec.specs.Words.{text_of}

@@ -1,11 +1,9 @@
 -- The faults of a trace's line, 2 to 5, after what the lines before it tell. Fault 1 is a line that has no form.
 -- Source: the text formats of this project (docs/FORMATS.md).
 use Rattle.std.specs.Prelude.{◌&&◌, ◌∷◌, ◌++◌}
-use Rattle.text_spec.specs.Below.{ℕ, not, nat_lt, nat_le, Bool, true, false, List, [], replicate, set, Result, ⊤, list_all, Parts, ◌>>◌, asks}
-use Rattle.history_spec.specs.Rounds.{lines_at, last_tick}
+use Rattle.text_spec.specs.Below.{ℕ, not, nat_lt, nat_le, Bool, true, false, List, [], replicate, set, Result, ⊤, list_all, Parts, ◌>>◌, asks, lines_at, last_tick, Act, Report, State, SetMode, Absent, Asked, reports, changes, sets, Round}
 use Rattle.text_spec.specs.JournalFaults.{is_tick, is_act, has_event}
-use Rattle.text_spec.specs.JournalText.{Act, Report, State, SetMode, Absent}
-use Rattle.text_spec.specs.TraceText.{Asked, reports, changes, sets, Round, TraceLine, opens, calls, closes}
+use Rattle.text_spec.specs.TraceText.{TraceLine, opens, calls, closes}
 
 -- ---- faults 3 and 4: ranges and events
 

@@ -2,12 +2,12 @@
 -- length is one; whether it is in its range is not asked here.
 -- Source: the text formats of this project (docs/FORMATS.md).
 use Rattle.std.specs.Prelude.{◌∷◌}
-use Rattle.text_spec.specs.Below.{ℕ, List, [], Option, option_map, codes, length}
+use Rattle.text_spec.specs.Below.{ℕ, List, [], Option, option_map, codes, length, reports, changes, sets}
 use Rattle.text_spec.specs.Contexts.{numbers_in}
 use Rattle.text_spec.specs.Fields.{Form, the, a_number, a_stamp, a_mode, any_bytes, first_as, told_in_one}
 use Rattle.text_spec.specs.JournalForm.{index}
 use Rattle.text_spec.specs.Maybe.{◌>>=◌, or_else}
-use Rattle.text_spec.specs.TraceText.{TraceLine, opens, calls, closes, reports, changes, sets}
+use Rattle.text_spec.specs.TraceText.{TraceLine, opens, calls, closes}
 
 -- a report
 abbrev pub asked_report_form : Form TraceLine

@@ -1,13 +1,12 @@
 -- Which rounds a text is the trace of, and where it has a fault: the first bad line and its first fault.
 -- Source: the text formats of this project (docs/FORMATS.md).
 use Rattle.std.specs.Prelude.{◌≡◌, ◌≤◌, ◌^◌}
-use Rattle.text_spec.specs.Below.{ℕ, not, true, List, length, Result, Ok, AllByRecursion, flat_map, Parts, asks}
-use Rattle.history_spec.specs.{KeepUpFrom, round_ticks}
+use Rattle.text_spec.specs.Below.{ℕ, not, true, List, length, Result, Ok, AllByRecursion, flat_map, Parts, asks, KeepUpFrom, round_ticks, Asked, Round}
 use Rattle.text_spec.specs.Fields.{AreHeld}
 use Rattle.text_spec.specs.Lines.{Grammar, BadLine, past_in, ◌>>=◌}
 use Rattle.text_spec.specs.TraceFaults.{PastRounds, no_rounds, is_allowed, trace_fault_of, next_rounds}
 use Rattle.text_spec.specs.TraceForm.{trace_told_by}
-use Rattle.text_spec.specs.TraceText.{Asked, Round, TraceLine, trace_fields, calls}
+use Rattle.text_spec.specs.TraceText.{TraceLine, trace_fields, calls}
 
 -- ---- the reading of a text
 
@@ -26,13 +25,9 @@ trace_in config text = past_in (trace_grammar config) no_rounds text >>= λ past
 
 -- ---- which rounds there are
 
--- what is asked for can be held: a timestamp has 64 bits, and so on for each field
-abbrev pub IsHeldAsked : Asked → Type 0
-IsHeldAsked asked = AreHeld (trace_fields (calls 0 asked))
-
--- what a caller asks for can be held, and the configuration allows it
+-- what a caller asks for can be held, as a timestamp of 64 bits, and the configuration allows it
 abbrev pub MayAsk : Parts → Asked → Type 0
-MayAsk config asked = IsHeldAsked asked × (is_allowed config asked ≡ true)
+MayAsk config asked = AreHeld (trace_fields (calls 0 asked)) × (is_allowed config asked ≡ true)
 
 -- the round has a list of lines for each caller, and the configuration allows each
 pub record IsAllowedRound (config : Parts) (round : Round) : Type 0 where

@@ -2,7 +2,7 @@
 -- Source: the text formats of this project (docs/FORMATS.md).
 use Rattle.std.specs.Prelude.{◌∷◌, ◌++◌}
 use Rattle.text_spec.specs.Below.{ℕ, suc, List, [], map, codes, flat_map}
-pub use Rattle.history_spec.specs.Rounds.{Asked, Round, changes, reports, sets}
+pub use Rattle.text_spec.specs.Below.{Asked, Round, changes, reports, sets}
 use Rattle.text_spec.specs.Fields.{Filled, the, a_number, a_stamp, a_mode, any_bytes, put, line_with}
 use Rattle.text_spec.specs.Words.{text_of}
 

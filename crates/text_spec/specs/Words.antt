@@ -1,7 +1,7 @@
 -- Lines of a text, each ended by a line feed, and the words of a line, one space between each two.
 -- Source: the text formats of this project.
-use Rattle.std.specs.Prelude.{◌==◌, ◌∷◌, ◌++◌}
-use Rattle.text_spec.specs.Below.{ℕ, Bool, not, List, [], codes, slice_split, join_with_byte}
+use Rattle.std.specs.Prelude.{◌≡◌, ◌≤◌, ◌+◌, ◌==◌, ◌∷◌, ◌++◌}
+use Rattle.text_spec.specs.Below.{Vec, vec_len, vec_capacity, length, Option, Some, None, ℕ, Bool, not, List, [], codes, slice_split, join_with_byte}
 
 -- the character between two words
 abbrev pub space : ℕ
@@ -19,6 +19,11 @@ absent = codes "-"
 abbrev pub pieces_of : ℕ → List ℕ → List (List ℕ)
 pieces_of separator text = slice_split (λ b. b == separator) text
 
+-- the pieces between the bytes that are the separator, none where there is no text
+abbrev pub pieces_left : ℕ → Option (List ℕ) → List (List ℕ)
+pieces_left separator None = []
+pieces_left separator (Some text) = pieces_of separator text
+
 -- whether a byte is another one than the separator
 abbrev pub differs : ℕ → ℕ → Bool
 differs separator byte = not (byte == separator)
@@ -35,3 +40,9 @@ line_of words = join_with_byte space words
 abbrev pub text_of : List (List ℕ) → List ℕ
 text_of [] = []
 text_of (line ∷ lines) = line ++ line_feed ∷ text_of lines
+
+-- the text was written behind what was there, and there is no less room than before
+pub record Written {Z : Type 0} (old new : Vec ℕ Z) (text : List ℕ) : Type 0 where
+  pub items : new.items ≡ old.items ++ text
+  pub len : vec_len new ≡ vec_len old + length text
+  pub capacity : vec_capacity old ≤ vec_capacity new

@@ -1,8 +1,8 @@
 //! Decoded messages as lines.
 
-ghost use Rattle.std.specs.Prelude.{◌≡◌, ◌+◌, ◌<◌, ◌≤◌, ◌++◌, ◌∷◌, [], OnOk, OnErr, option_copied, codes, decimal, length, IfSome, vec_len, vec_capacity, ◌^◌};
+ghost use Rattle.std.specs.Prelude.{◌≡◌, ◌+◌, ◌<◌, ◌≤◌, ◌++◌, ◌∷◌, ◌^◌};
+ghost use Rattle.text_spec.specs.{Written, [], OnOk, OnErr, option_copied, codes, decimal, length, IfSome, vec_len, vec_capacity, line_feed, space, message_line, form_letter, layout_word, shown_context, shown_signature};
 ghost use Rattle.ids_frame.specs.Message.{FitsMessage};
-ghost use Rattle.text_spec.specs.Names.{line_feed, space, message_line, form_letter, layout_word, shown_context, shown_signature};
 
 use crate::hexadecimal::put_hex;
 use crate::numbers::{digits_len, put_field};
@@ -66,7 +66,8 @@ fn line_len(message: &Message<'_>) -> usize
         + digits_len(u64::from(message.sensor()));
     let event = digits_len(u64::from(message.event())) + digits_len(u64::from(message.count()));
     let parts = stamp_len(message.stamp()) + context_len(&message.context());
-    8 + layout_len(message.version())
+    let layout = if message.version() == 2 { 2 } else { 1 };
+    8 + layout
         + source
         + event
         + digits_len(u64::from(message.reserved()))
@@ -85,19 +86,10 @@ fn context_len(context: &Option<Context<'_>>) -> usize
     }
 }
 
-fn layout_len(version: u8) -> usize
-    ensures value { result ≡ length (layout_word version) }
-    ensures small { result ≤ 2 }
-{
-    if version == 2 { 2 } else { 1 }
-}
-
 /// Writes the first word of a message's line.
 fn put_layout(out: &mut Vec<u8>, version: u8)
     requires { vec_len out.old + length (layout_word version) ≤ vec_capacity out.old }
-    ensures items { out.new.items ≡ out.old.items ++ layout_word version }
-    ensures len { vec_len out.new ≡ vec_len out.old + length (layout_word version) }
-    ensures capacity { vec_capacity out.new ≡ vec_capacity out.old }
+    ensures { Written out.old out.new (layout_word version) }
 {
     out.push_reserved(b'M');
     if version == 2 {
@@ -109,26 +101,18 @@ fn put_layout(out: &mut Vec<u8>, version: u8)
 #[tactic(auto, using(crate::proofs::HexadecimalLemmas::length_hex))]
 fn put_context(out: &mut Vec<u8>, context: &Option<Context<'_>>)
     requires { vec_len out.old + length (shown_context context.now) ≤ vec_capacity out.old }
-    ensures items { out.new.items ≡ out.old.items ++ shown_context context.now }
-    ensures len { vec_len out.new ≡ vec_len out.old + length (shown_context context.now) }
-    ensures capacity { vec_capacity out.old ≤ vec_capacity out.new }
+    ensures { Written out.old out.new (shown_context context.now) }
 {
     match context {
         Some(context) => {
-            out.push_reserved(mark_of(context.form()));
+            out.push_reserved(match context.form() {
+                Form::Short => b's',
+                Form::Long => b'l',
+            });
             out.push_reserved(b':');
             put_hex(out, context.bytes());
         }
         None => out.push_reserved(b'-'),
-    }
-}
-
-fn mark_of(form: Form) -> u8
-    ensures { result ≡ form_letter form }
-{
-    match form {
-        Form::Short => b's',
-        Form::Long => b'l',
     }
 }
 
@@ -149,11 +133,7 @@ fn signature_len(signature: Option<&[u8]>) -> usize
 fn put_signature(out: &mut Vec<u8>, signature: Option<&[u8]>)
     requires { vec_len out.old + length (shown_signature (option_copied signature))
         ≤ vec_capacity out.old }
-    ensures items { out.new.items ≡
-        out.old.items ++ shown_signature (option_copied signature.entry) }
-    ensures len { vec_len out.new ≡
-        vec_len out.old + length (shown_signature (option_copied signature.entry)) }
-    ensures capacity { vec_capacity out.old ≤ vec_capacity out.new }
+    ensures { Written out.old out.new (shown_signature (option_copied signature.entry)) }
 {
     match signature {
         Some(bytes) => {

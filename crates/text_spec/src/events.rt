@@ -1,7 +1,7 @@
 //! Which events sensors report.
 
-ghost use Rattle.std.specs.Prelude.{◌≡◌, ◌≤◌, length};
-ghost use Rattle.ids_config.specs.Parts.{is_sensor as sensor_is};
+ghost use Rattle.std.specs.Prelude.{◌≡◌, ◌≤◌};
+ghost use Rattle.text_spec.specs.{length, is_sensor as sensor_is};
 
 use ids_config::Config;
 use ids_types::EventIndex;

@@ -1,7 +1,7 @@
 //! Bytes as hexadecimal digits that are still to be decoded.
 
-ghost use Rattle.std.specs.Prelude.{◌≡◌, ◌≤◌, length, take, drop};
-ghost use Rattle.text_spec.specs.Names.{some_hex};
+ghost use Rattle.std.specs.Prelude.{◌≡◌, ◌≤◌};
+ghost use Rattle.text_spec.specs.{length, take, drop, some_hex};
 
 use crate::hexadecimal::{are_lower_digits, put_bytes};
 use std::marker::Model;
@@ -18,7 +18,7 @@ impl<'a> Model for HexText<'a> {
 
     ghost Value = { List ℕ };
 
-    ghost use Rattle.text_spec.specs.HexTextView.{lent_bytes, IsText};
+    ghost use Rattle.text_spec.specs.Hexadecimal.{lent_bytes, IsText};
 
     ghost view = { lent_bytes };
 

@@ -1,9 +1,7 @@
 //! Bytes to lower-case hexadecimal digits and back.
 
-ghost use Rattle.std.specs.Prelude.{◌≡◌, ℕ, ◌/◌, ◌%◌, ◌<◌, ◌≤◌, List, length, take, drop, IsTrue, ◌++◌, ◌*◌, OnOk, OnErr, ◌∷◌, [], ◌+◌, vec_len, vec_capacity, slice_index};
-ghost use Rattle.std.specs.List.{list_all};
-ghost use Rattle.hex.specs.Hex.{IsBytes, encode_lower, lower_digits};
-ghost use Rattle.text_spec.specs.{bytes_word, hex_in, is_lower_digit as writes_digit, IsWritten};
+ghost use Rattle.std.specs.Prelude.{◌≡◌, ◌/◌, ◌%◌, ◌<◌, ◌≤◌, ◌++◌, ◌*◌, ◌∷◌, ◌+◌};
+ghost use Rattle.text_spec.specs.{Written, ℕ, List, length, take, drop, IsTrue, OnOk, OnErr, [], vec_len, vec_capacity, slice_index, list_all, IsBytes, encode_lower, lower_digits, bytes_word, hex_in, is_lower_digit as writes_digit, IsWritten};
 
 use ids_types::NoMemory;
 
@@ -46,24 +44,8 @@ fn value_of(digit: u8) -> u8
 
 /// Appends the text of the bytes.
 /// Steps: two digits a byte. Memory: may answer want of memory, only where the room is short. By: `full`; read off.
-pub fn push_hex(out: &mut Vec<u8>, bytes: &[u8]) -> Result<(), NoMemory>
-    ensures ok { OnOk result (out.new.items ≡ out.old.items ++ encode_lower bytes.now) }
-    ensures err { OnErr result (out.new.items ≡ out.old.items) }
-    ensures full { let text = encode_lower bytes.now in
-        OnErr result (vec_capacity out.old < vec_len out.old + length text) }
-{
-    if out.capacity() - out.len() < 2 * bytes.len() {
-        return push_hex_at_end(out, bytes);
-    }
-    put_hex(out, bytes);
-    Ok(())
-}
-
-/// The same where there may be little room.
-#[cold]
-#[inline(never)]
 #[tactic(auto, using(crate::proofs::HexadecimalLemmas::length_hex, std::proofs::lemmas::Grind::common_steps))]
-fn push_hex_at_end(out: &mut Vec<u8>, bytes: &[u8]) -> Result<(), NoMemory>
+pub fn push_hex(out: &mut Vec<u8>, bytes: &[u8]) -> Result<(), NoMemory>
     ensures ok { OnOk result (out.new.items ≡ out.old.items ++ encode_lower bytes.now) }
     ensures err { OnErr result (out.new.items ≡ out.old.items) }
     ensures full { let text = encode_lower bytes.now in
@@ -89,9 +71,7 @@ pub fn push_bytes(out: &mut Vec<u8>, bytes: &[u8]) -> Result<(), NoMemory>
 #[tactic(auto, using(crate::proofs::HexadecimalLemmas::writings))]
 pub(crate) fn put_hex(out: &mut Vec<u8>, bytes: &[u8])
     requires { vec_len out.old + 2 * length bytes.now ≤ vec_capacity out.old }
-    ensures items { out.new.items ≡ out.old.items ++ encode_lower bytes.now }
-    ensures len { vec_len out.new ≡ vec_len out.old + 2 * length bytes.now }
-    ensures capacity { vec_capacity out.old ≤ vec_capacity out.new }
+    ensures { Written out.old out.new (encode_lower bytes.now) }
 {
     for k in 0..bytes.len() / 8 {
         put_eight(out, &bytes[8 * k..8 * k + 8]);
@@ -104,9 +84,7 @@ pub(crate) fn put_hex(out: &mut Vec<u8>, bytes: &[u8])
 fn put_eight(out: &mut Vec<u8>, bytes: &[u8])
     requires eight { length bytes.now ≡ 8 }
     requires room { vec_len out.old + 16 ≤ vec_capacity out.old }
-    ensures items { out.new.items ≡ out.old.items ++ encode_lower bytes.now }
-    ensures len { vec_len out.new ≡ vec_len out.old + 16 }
-    ensures capacity { vec_capacity out.old ≤ vec_capacity out.new }
+    ensures { Written out.old out.new (encode_lower bytes.now) }
 {
     if out.capacity() - out.len() >= 16 {
         out.extend_from_slice(&sixteen_of(bytes)).unwrap();
@@ -132,25 +110,12 @@ fn sixteen_of(bytes: &[u8]) -> [u8; 16]
 #[tactic(auto, using(crate::proofs::HexadecimalLemmas::writings))]
 fn put_each(out: &mut Vec<u8>, bytes: &[u8])
     requires { vec_len out.old + 2 * length bytes.now ≤ vec_capacity out.old }
-    ensures items { out.new.items ≡ out.old.items ++ encode_lower bytes.now }
-    ensures len { vec_len out.new ≡ vec_len out.old + 2 * length bytes.now }
-    ensures capacity { vec_capacity out.old ≤ vec_capacity out.new }
+    ensures { Written out.old out.new (encode_lower bytes.now) }
 {
     for i in 0..bytes.len() {
-        put_byte(out, bytes[i]);
+        out.push_reserved(digit_of(bytes[i] / 16));
+        out.push_reserved(digit_of(bytes[i] % 16));
     }
-}
-
-/// Writes the two digits of a byte.
-fn put_byte(out: &mut Vec<u8>, byte: u8)
-    requires { vec_len out.old + 2 ≤ vec_capacity out.old }
-    ensures items { out.new.items ≡
-        out.old.items ++ slice_index lower_digits (byte / 16) ∷ slice_index lower_digits (byte % 16) ∷ [] }
-    ensures len { vec_len out.new ≡ vec_len out.old + 2 }
-    ensures capacity { vec_capacity out.new ≡ vec_capacity out.old }
-{
-    out.push_reserved(digit_of(byte / 16));
-    out.push_reserved(digit_of(byte % 16));
 }
 
 /// The digit of a value.
@@ -171,15 +136,9 @@ pub(crate) fn are_lower_digits(word: &[u8]) -> bool
 {
     let mut all = true;
     for byte in word {
-        all &= is_lower_digit(byte);
+        all &= byte.is_ascii_digit() | matches!(byte, b'a'..=b'f');
     }
     all
-}
-
-fn is_lower_digit(byte: &u8) -> bool
-    ensures { result ≡ writes_digit byte.now }
-{
-    byte.is_ascii_digit() | matches!(byte, b'a'..=b'f')
 }
 
 /// Bytes have one text, which is read as them.

@@ -1,8 +1,7 @@
 //! The journal's text.
 
-ghost use Rattle.std.specs.List.{AllByRecursion};
-ghost use Rattle.std.specs.Prelude.{◌≡◌, ℕ, ◌≤◌, List, ◌∷◌, ◌++◌, true, Some, None, Ok, Err, length};
-ghost use Rattle.text_spec.specs.Names.{Parts, HasForm, is_in_ranges, line_forms, told_by, BadLine, Fits, Follows, IsJournal, journal_in, Told, Line, lines_told};
+ghost use Rattle.std.specs.Prelude.{◌≡◌, ◌≤◌, ◌∷◌, ◌++◌};
+ghost use Rattle.text_spec.specs.{AllByRecursion, ℕ, List, true, Some, None, Ok, Err, length, Parts, HasForm, is_in_ranges, line_forms, told_by, BadLine, Fits, Follows, IsJournal, journal_in, Told, Line, lines_told};
 
 /// A text is the journal of one history with its losses at most, and is read as them; a text with a
 /// bad line is no journal. A configuration has at most 256 events.

@@ -1,6 +1,6 @@
 //! The fields of the project's texts: lines, words, numbers, lower-case hexadecimal and timestamps.
 //!
-//! Layer 4, messages and texts. Over `ids_types`, `ids_config`, `ids_frame` and the kit's `hex`, `itoa`
+//! Layer 4, messages and texts. Over `ids_types`, `ids_config`, `ids_frame` and the kit's `hex`
 //! and `memchr`; the journal, decoded messages, the trace and the text of the memory are read or printed
 //! by it.
 //! Contracts see a word by its bytes. `specs/` gives each field its text and its reading, and the

@@ -1,8 +1,7 @@
 //! Texts that are read line by line.
 
-ghost use Rattle.std.specs.Prelude.{◌≡◌, IfOk};
-ghost use Rattle.text_spec.specs.LineAnswers.{Reads, Took, fault_at, fault_behind};
-ghost use Rattle.text_spec.specs.Lines.{Grammar, after_line, past_in};
+ghost use Rattle.std.specs.Prelude.{◌≡◌};
+ghost use Rattle.text_spec.specs.{IfOk, Reads, Took, fault_at, fault_behind, Grammar, after_line, past_in};
 
 use crate::fault::{LineFault, TextFault};
 use crate::pieces::cut;

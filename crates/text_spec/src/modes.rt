@@ -1,7 +1,7 @@
 //! The names of reporting modes in a text.
 
-ghost use Rattle.std.specs.Prelude.{◌≡◌, ℕ, List, Some, ◌++◌, ◌+◌, ◌<◌, length, vec_len, vec_capacity, OnOk, OnErr};
-ghost use Rattle.text_spec.specs.Names.{mode_name, mode_named};
+ghost use Rattle.std.specs.Prelude.{◌≡◌, ◌++◌, ◌+◌, ◌<◌};
+ghost use Rattle.text_spec.specs.{ℕ, List, Some, length, vec_len, vec_capacity, OnOk, OnErr, mode_name, mode_named};
 
 use ids_types::{Mode, NoMemory};
 
@@ -17,7 +17,7 @@ pub fn push_mode(out: &mut Vec<u8>, mode: Mode) -> Result<(), NoMemory>
 }
 
 /// A mode has one name, which is read as it.
-#[tactic(auto, using(crate::proofs::ModesLemmas::mode_again, crate::proofs::ModesLemmas::named_takes))]
+#[tactic(auto, using(crate::proofs::ContextsLaws::mode_again, crate::proofs::ContextsLaws::named_takes))]
 pub fn one_name_for_a_mode()
     ensures read { (mode : Mode) → mode_named (mode_name mode) ≡ Some mode }
     ensures only { (word : List ℕ) (mode : Mode) → mode_named word ≡ Some mode → mode_name mode ≡ word }

@@ -1,13 +1,9 @@
 //! Decimal numbers, read and written.
 
-ghost use Rattle.std.specs.Prelude.{◌≡◌, ℕ, ◌<◌, ◌≤◌, ◌^◌, List, option_map, decimal, IsTrue, ◌++◌, ◌∷◌, OnOk, OnErr, [], ◌+◌, ◌*◌, ◌/◌, ◌%◌, length, vec_len, vec_capacity, if◌then◌else◌};
-ghost use Rattle.std.specs.Char.{is_ascii_digit};
-ghost use Rattle.std.specs.List.{list_all};
-ghost use Rattle.std.specs.Str.Parse.{digits_value};
-ghost use Rattle.text_spec.specs.{space, capped, number_in, begins_number, zero_digit};
+ghost use Rattle.std.specs.Prelude.{◌≡◌, ◌<◌, ◌≤◌, ◌^◌, ◌++◌, ◌∷◌, ◌+◌, ◌*◌, ◌/◌, ◌%◌, if◌then◌else◌};
+ghost use Rattle.text_spec.specs.{Written, ℕ, List, option_map, decimal, IsTrue, OnOk, OnErr, [], length, vec_len, vec_capacity, is_ascii_digit, list_all, digits_value, space, capped, number_in, zero_digit};
 
 use ids_types::NoMemory;
-use itoa::Buffer;
 
 /// The number of a word of digits that have this value, `None` where the word is no number.
 pub(crate) fn number_of(digits: &[u8], value: u64) -> Option<u64>
@@ -15,17 +11,10 @@ pub(crate) fn number_of(digits: &[u8], value: u64) -> Option<u64>
     requires value { value ≡ capped (digits_value 10 digits.now) }
     ensures { result ≡ option_map capped (number_in digits.now) }
 {
-    may_begin(digits).then_some(value)
-}
-
-/// Whether a byte stands there, and none after a `0` that stands first.
-fn may_begin(word: &[u8]) -> bool
-    ensures { result ≡ begins_number word.now }
-{
-    match word {
-        [] => false,
-        [b'0', _, ..] => false,
-        _ => true,
+    match digits {
+        [] => None,
+        [b'0', _, ..] => None,
+        _ => Some(value),
     }
 }
 
@@ -66,23 +55,10 @@ fn push_long_number(out: &mut Vec<u8>, number: u64) -> Result<(), NoMemory>
         OnErr result (vec_capacity out.old < vec_len out.old + length text) }
 {
     if out.capacity() - out.len() < MOST_DIGITS {
-        return push_number_at_end(out, number);
+        out.reserve(digits_len(number))?;
     }
     put_number(out, number);
     Ok(())
-}
-
-/// The same where there may be little room.
-#[cold]
-#[inline(never)]
-fn push_number_at_end(out: &mut Vec<u8>, number: u64) -> Result<(), NoMemory>
-    ensures ok { OnOk result (out.new.items ≡ out.old.items ++ decimal number) }
-    ensures err { OnErr result (out.new.items ≡ out.old.items) }
-    ensures full { let text = decimal number in
-        OnErr result (vec_capacity out.old < vec_len out.old + length text) }
-{
-    let mut digits = Buffer::new();
-    Ok(out.extend_from_slice(digits.format(number).as_bytes())?)
 }
 
 /// Appends a space and a number: quick where it has one digit or two, as most have.
@@ -112,26 +88,10 @@ fn push_long_field(out: &mut Vec<u8>, number: u64) -> Result<(), NoMemory>
         OnErr result (vec_capacity out.old < vec_len out.old + length text) }
 {
     if out.capacity() - out.len() <= MOST_DIGITS {
-        return push_field_at_end(out, number);
+        out.reserve(1 + digits_len(number))?;
     }
     put_field(out, number);
     Ok(())
-}
-
-/// The same where there may be little room.
-#[cold]
-#[inline(never)]
-fn push_field_at_end(out: &mut Vec<u8>, number: u64) -> Result<(), NoMemory>
-    ensures ok { OnOk result (out.new.items ≡ out.old.items ++ (space ∷ decimal number)) }
-    ensures err { OnErr result (out.new.items ≡ out.old.items) }
-    ensures full { let text = space ∷ decimal number in
-        OnErr result (vec_capacity out.old < vec_len out.old + length text) }
-{
-    let mut digits = Buffer::new();
-    let text = digits.format(number).as_bytes();
-    out.reserve(text.len() + 1)?;
-    out.push_reserved(b' ');
-    Ok(out.extend_from_slice(text)?)
 }
 
 /// How many bytes the text of the number has.
@@ -156,9 +116,7 @@ const MOST_DIGITS: usize = 20;
 #[tactic(auto, using(crate::proofs::NumbersLemmas::written))]
 pub(crate) fn put_field(out: &mut Vec<u8>, number: u64)
     requires { vec_len out.old + (1 + length (decimal number)) ≤ vec_capacity out.old }
-    ensures items { out.new.items ≡ out.old.items ++ (space ∷ decimal number) }
-    ensures len { vec_len out.new ≡ vec_len out.old + (1 + length (decimal number)) }
-    ensures capacity { vec_capacity out.new ≡ vec_capacity out.old }
+    ensures { Written out.old out.new (space ∷ decimal number) }
 {
     out.push_reserved(b' ');
     put_number(out, number);
@@ -169,9 +127,7 @@ pub(crate) fn put_field(out: &mut Vec<u8>, number: u64)
 #[tactic(auto, using(crate::proofs::NumbersLemmas::written))]
 fn put_number(out: &mut Vec<u8>, number: u64)
     requires { vec_len out.old + length (decimal number) ≤ vec_capacity out.old }
-    ensures items { out.new.items ≡ out.old.items ++ decimal number }
-    ensures len { vec_len out.new ≡ vec_len out.old + length (decimal number) }
-    ensures capacity { vec_capacity out.new ≡ vec_capacity out.old }
+    ensures { Written out.old out.new (decimal number) }
 {
     if number < 10_000 {
         return put_few(out, number);
@@ -184,9 +140,7 @@ fn put_number(out: &mut Vec<u8>, number: u64)
 #[tactic(auto, using(crate::proofs::NumbersLemmas::written))]
 fn put_digits(out: &mut Vec<u8>, number: u64)
     requires { vec_len out.old + length (decimal number) ≤ vec_capacity out.old }
-    ensures items { out.new.items ≡ out.old.items ++ decimal number }
-    ensures len { vec_len out.new ≡ vec_len out.old + length (decimal number) }
-    ensures capacity { vec_capacity out.new ≡ vec_capacity out.old }
+    ensures { Written out.old out.new (decimal number) }
 {
     if number < 10_000 {
         return put_few(out, number);
@@ -202,9 +156,7 @@ fn put_digits(out: &mut Vec<u8>, number: u64)
 fn put_few(out: &mut Vec<u8>, number: u64)
     requires few { number < 10_000 }
     requires room { vec_len out.old + length (decimal number) ≤ vec_capacity out.old }
-    ensures items { out.new.items ≡ out.old.items ++ decimal number }
-    ensures len { vec_len out.new ≡ vec_len out.old + length (decimal number) }
-    ensures capacity { vec_capacity out.new ≡ vec_capacity out.old }
+    ensures { Written out.old out.new (decimal number) }
 {
     if number < 100 {
         return put_short(out, number);
@@ -219,27 +171,12 @@ fn put_few(out: &mut Vec<u8>, number: u64)
 fn put_short(out: &mut Vec<u8>, number: u64)
     requires short { number < 100 }
     requires room { vec_len out.old + length (decimal number) ≤ vec_capacity out.old }
-    ensures items { out.new.items ≡ out.old.items ++ decimal number }
-    ensures len { vec_len out.new ≡ vec_len out.old + length (decimal number) }
-    ensures capacity { vec_capacity out.new ≡ vec_capacity out.old }
+    ensures { Written out.old out.new (decimal number) }
 {
     if number < 10 {
-        return put_digit(out, number);
+        return out.push_reserved(b'0' + number as u8);
     }
     put_pair(out, number);
-}
-
-/// Writes a number of one digit.
-#[inline(always)]
-#[tactic(auto, using(crate::proofs::NumbersLemmas::written))]
-fn put_digit(out: &mut Vec<u8>, number: u64)
-    requires digit { number < 10 }
-    requires room { vec_len out.old + length (decimal number) ≤ vec_capacity out.old }
-    ensures items { out.new.items ≡ out.old.items ++ decimal number }
-    ensures len { vec_len out.new ≡ vec_len out.old + length (decimal number) }
-    ensures capacity { vec_capacity out.new ≡ vec_capacity out.old }
-{
-    out.push_reserved(b'0' + number as u8);
 }
 
 /// Writes the two last digits of a number, `0` and `7` of 7.
@@ -247,10 +184,7 @@ fn put_digit(out: &mut Vec<u8>, number: u64)
 fn put_pair(out: &mut Vec<u8>, number: u64)
     requires pair { number < 100 }
     requires room { vec_len out.old + 2 ≤ vec_capacity out.old }
-    ensures items { out.new.items ≡
-        out.old.items ++ (zero_digit + number / 10) ∷ (zero_digit + number % 10) ∷ [] }
-    ensures len { vec_len out.new ≡ vec_len out.old + 2 }
-    ensures capacity { vec_capacity out.new ≡ vec_capacity out.old }
+    ensures { Written out.old out.new ((zero_digit + number / 10) ∷ (zero_digit + number % 10) ∷ []) }
 {
     out.push_reserved(b'0' + (number / 10) as u8);
     out.push_reserved(b'0' + (number % 10) as u8);

@@ -1,12 +1,8 @@
 //! The words of a line and the parts of a word, taken one after another.
 
-ghost use Rattle.std.specs.Char.{is_ascii_digit};
-ghost use Rattle.std.specs.Prelude.{◌≡◌, ◌==◌, ◌&&◌, ℕ, ◌+◌, ◌<◌, ◌≤◌, List, ◌∷◌, true, false, length, take, drop, slice_index, option_map, IfSome, IfOk, IfErr};
+ghost use Rattle.std.specs.Prelude.{◌≡◌, ◌==◌, ◌&&◌, ◌+◌, ◌<◌, ◌≤◌, ◌∷◌};
+ghost use Rattle.text_spec.specs.{is_ascii_digit, ℕ, List, true, false, length, take, drop, slice_index, option_map, IfSome, IfOk, IfErr, a_mode, a_number, a_stamp, first_as, first_of, ended as ended_of, AreDigits, IsNumberOf, pieces_left, differs, pieces_of};
 ghost use Rattle.memchr.specs.Find.{IsFirstByte, is_byte};
-ghost use Rattle.text_spec.specs.Fields.{a_mode, a_number, a_stamp, first_as};
-ghost use Rattle.text_spec.specs.Maybe.{first_of, ended as ended_of};
-ghost use Rattle.text_spec.specs.PiecesView.{AreDigits, pieces_left};
-ghost use Rattle.text_spec.specs.Words.{differs, pieces_of};
 
 use crate::numbers::{number_of, with_digit};
 use crate::stamps::stamp;
@@ -176,15 +172,9 @@ fn ends_at_sixteen(text: &[u8], separator: u8) -> bool
     }
     let mut free = true;
     for i in 0..16 {
-        free &= is_other(&text[i], separator);
+        free &= text[i] != separator;
     }
     free
-}
-
-fn is_other(byte: &u8, separator: u8) -> bool
-    ensures { result ≡ differs separator byte.now }
-{
-    *byte != separator
 }
 
 /// How many digits are read before the loop begins. Most numbers have no more.
@@ -196,8 +186,7 @@ type Cut<'a> = Option<(u64, Option<&'a [u8]>)>;
 /// The number that the first piece writes, and what stands after the piece.
 #[inline(always)]
 fn cut_number<const SEPARATOR: u8>(text: &[u8]) -> Cut<'_>
-    ensures { option_map (λ x. (x.0, pieces_left SEPARATOR (option_map (λ r. r.now) x.1))) result
-        ≡ first_as a_number (pieces_of SEPARATOR text.now) }
+    ensures { IsNumberOf SEPARATOR text.now result }
 {
     match few_digits(text, SEPARATOR) {
         Ok(value) => cut_digits(text, FEW, value, SEPARATOR),
@@ -209,9 +198,7 @@ fn cut_number<const SEPARATOR: u8>(text: &[u8]) -> Cut<'_>
 #[inline(always)]
 fn few_digits(text: &[u8], separator: u8) -> Result<u64, Cut<'_>>
     ensures more { IfOk result (λ value. AreDigits separator text.now FEW value) }
-    ensures cut { IfErr result (λ cut.
-        option_map (λ x. (x.0, pieces_left separator (option_map (λ r. r.now) x.1))) cut
-        ≡ first_as a_number (pieces_of separator text.now)) }
+    ensures cut { IfErr result (λ cut. IsNumberOf separator text.now cut) }
 {
     let value = next_digit(text, 0, 0, separator)?;
     let value = next_digit(text, 1, value, separator)?;
@@ -224,8 +211,7 @@ fn few_digits(text: &[u8], separator: u8) -> Result<u64, Cut<'_>>
 #[inline(always)]
 fn cut_digits(text: &[u8], start: usize, value: u64, separator: u8) -> Cut<'_>
     requires { AreDigits separator text.now start value }
-    ensures { option_map (λ x. (x.0, pieces_left separator (option_map (λ r. r.now) x.1))) result
-        ≡ first_as a_number (pieces_of separator text.now) }
+    ensures { IsNumberOf separator text.now result }
 {
     let mut value = value;
     for i in start..text.len() {
@@ -242,9 +228,7 @@ fn cut_digits(text: &[u8], start: usize, value: u64, separator: u8) -> Cut<'_>
 fn next_digit(text: &[u8], i: usize, value: u64, separator: u8) -> Result<u64, Cut<'_>>
     requires { AreDigits separator text.now i value }
     ensures more { IfOk result (λ more. AreDigits separator text.now (i + 1) more) }
-    ensures cut { IfErr result (λ cut.
-        option_map (λ x. (x.0, pieces_left separator (option_map (λ r. r.now) x.1))) cut
-        ≡ first_as a_number (pieces_of separator text.now)) }
+    ensures cut { IfErr result (λ cut. IsNumberOf separator text.now cut) }
 {
     if i == text.len() {
         return Err(whole_number(text, value, separator));
@@ -261,8 +245,7 @@ fn next_digit(text: &[u8], i: usize, value: u64, separator: u8) -> Result<u64, C
 #[tactic(auto, using(crate::proofs::PiecesLemmas::whole_piece))]
 fn whole_number(text: &[u8], value: u64, separator: u8) -> Cut<'_>
     requires { AreDigits separator text.now (length text.now) value }
-    ensures { option_map (λ x. (x.0, pieces_left separator (option_map (λ r. r.now) x.1))) result
-        ≡ first_as a_number (pieces_of separator text.now) }
+    ensures { IsNumberOf separator text.now result }
 {
     Some((number_of(text, value)?, None))
 }
@@ -275,8 +258,7 @@ fn number_before(text: &[u8], i: usize, value: u64, separator: u8) -> Cut<'_>
     requires within { i < length text.now }
     requires last { let byte = slice_index text.now i in
         is_ascii_digit byte && differs separator byte ≡ false }
-    ensures { option_map (λ x. (x.0, pieces_left separator (option_map (λ r. r.now) x.1))) result
-        ≡ first_as a_number (pieces_of separator text.now) }
+    ensures { IsNumberOf separator text.now result }
 {
     if text[i] != separator {
         return None;

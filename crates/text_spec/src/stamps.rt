@@ -1,7 +1,7 @@
 //! Timestamps, read and written.
 
-ghost use Rattle.std.specs.Prelude.{◌≡◌, ℕ, ◌<◌, ◌^◌, ◌≤◌, List, Option, ◌++◌, OnOk, OnErr, ◌+◌, length, vec_len, vec_capacity, option_and_then, option_map};
-ghost use Rattle.text_spec.specs.Names.{stamp_in, stamp_text, stamp_of_bytes, hex_in, Stamp};
+ghost use Rattle.std.specs.Prelude.{◌≡◌, ◌<◌, ◌^◌, ◌≤◌, ◌++◌, ◌+◌};
+ghost use Rattle.text_spec.specs.{Written, ℕ, List, Option, OnOk, OnErr, length, vec_len, vec_capacity, option_and_then, option_map, stamp_in, stamp_text, stamp_of_bytes, hex_in, Stamp};
 
 use crate::hexadecimal::{are_lower_digits, push_hex, put_bytes, put_hex};
 use ids_types::{NoMemory, Stamp};
@@ -62,9 +62,7 @@ pub(crate) fn stamp_len(stamp: Option<Stamp>) -> usize
 #[tactic(auto, using(crate::proofs::HexadecimalLemmas::length_hex))]
 pub(crate) fn put_stamp(out: &mut Vec<u8>, stamp: Option<Stamp>)
     requires { vec_len out.old + length (stamp_text stamp) ≤ vec_capacity out.old }
-    ensures items { out.new.items ≡ out.old.items ++ stamp_text stamp }
-    ensures len { vec_len out.new ≡ vec_len out.old + length (stamp_text stamp) }
-    ensures capacity { vec_capacity out.old ≤ vec_capacity out.new }
+    ensures { Written out.old out.new (stamp_text stamp) }
 {
     match stamp {
         None => out.push_reserved(b'-'),

@@ -1,9 +1,7 @@
 //! The trace's text.
 
-ghost use Rattle.std.specs.Prelude.{◌≡◌, ℕ, ◌≤◌, List, Ok, length};
-ghost use Rattle.text_spec.specs.Names.{Parts};
-ghost use Rattle.text_spec.specs.TraceReading.{AreRounds, trace_in};
-ghost use Rattle.text_spec.specs.TraceText.{Round, trace_text};
+ghost use Rattle.std.specs.Prelude.{◌≡◌, ◌≤◌};
+ghost use Rattle.text_spec.specs.{ℕ, List, Ok, length, Parts, AreRounds, trace_in, Round, trace_text};
 
 /// The text of rounds that fit a configuration is read as them, and the rounds that a text is read as fit. Each
 /// caller has its lines, with every number in its range and every event where it may stand. No tick is below the one

@@ -1,5 +1,4 @@
-use Rattle.text_spec.proofs.Names.{◌≡◌, take, list_all}
-use Rattle.text_spec.specs.Hexadecimal.{is_lower_digit}
+use Rattle.text_spec.proofs.Names.{◌≡◌, take, list_all, is_lower_digit}
 use Rattle.text_spec.proofs.hexadecimal.are_lower_digits.Given as goal
 
 -- whether the bytes so far are digits

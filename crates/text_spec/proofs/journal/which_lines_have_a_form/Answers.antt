@@ -1,4 +1,4 @@
-use Rattle.text_spec.proofs.JournalForms.{told_is, none_has_none}
+use Rattle.text_spec.proofs.JournalLaws.{told_is, none_has_none}
 use Rattle.text_spec.proofs.journal.which_lines_have_a_form.Goals as goal
 
 pub returns : goal.returns

@@ -1,4 +1,4 @@
-use Rattle.text_spec.specs.PiecesView.{AreDigits}
+use Rattle.text_spec.proofs.Names.{AreDigits}
 use Rattle.text_spec.proofs.pieces.cut_digits.Given as goal
 
 -- the bytes so far are digits, and this is their value

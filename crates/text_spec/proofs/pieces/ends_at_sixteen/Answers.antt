@@ -1,5 +1,4 @@
-use Rattle.text_spec.proofs.Names.{◌≡◌, take, length-take, get_or-take, AllPass-from_list_all, sym, ◌∙◌, arith, rules}
-use Rattle.text_spec.specs.Words.{differs}
+use Rattle.text_spec.proofs.Names.{◌≡◌, take, length-take, get_or-take, AllPass-from_list_all, sym, ◌∙◌, arith, rules, differs}
 use Rattle.text_spec.proofs.PiecesLemmas.{first_piece}
 use Rattle.text_spec.proofs.pieces.ends_at_sixteen.Goals as goal
 

@@ -1,5 +1,4 @@
-use Rattle.text_spec.proofs.Names.{◌≡◌, take, list_all}
-use Rattle.text_spec.specs.Words.{differs}
+use Rattle.text_spec.proofs.Names.{◌≡◌, take, list_all, differs}
 use Rattle.text_spec.proofs.pieces.ends_at_sixteen.Given as goal
 
 -- whether none of the bytes so far is the separator
