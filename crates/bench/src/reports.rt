@@ -8,7 +8,7 @@ use crate::rounds::{Ring, Size};
 use crate::times::Pair;
 use config_json::read;
 use event_chain::EventChain;
-use filter_chain::ParcelChain;
+use filter_chain::{ParcelChain, Unlogged};
 use ids_types::{Act, Carried, EventIndex};
 use main_function::Manager;
 use report_api::{CtxBuf, Desk, Pass, Report, Shared};
@@ -160,7 +160,7 @@ impl<R: Clock + AllocGlobal + Threads + Sync> Bench<'_, R> {
         let alloc = self.rt.alloc();
         let config = read(alloc, config).ok()?;
         let chain = EventChain::make(alloc, &config).ok()?;
-        let Ok(mut made) = main_function::make(alloc, &config, chain) else {
+        let Ok(mut made) = main_function::make(alloc, &config, chain, Unlogged) else {
             return None;
         };
         let turning = Turning {

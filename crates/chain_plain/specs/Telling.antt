@@ -28,7 +28,7 @@ pub record HasDeskRoom (events : ℕ) (desk : Desk) : Type 0 where
   pub nothing_back : desk.back.items ≡ []
   pub items_room : 1024 ≤ vec_capacity desk.items
   pub back_room : 1024 + events ≤ vec_capacity desk.back
-  pub sent_room : most_sent 1024 1024 events ≤ (room_of desk.out).sent
+  pub sent_room : most_sent 1024 1024 events ≤ room_of desk.out
 
 -- nothing on it, and such room
 pub record IsReady (events : ℕ) (desk : Desk) : Type 0 where

@@ -26,7 +26,7 @@ pub struct Desk<'h> {
     /// The entries of the next turn.
     pub items: Vec<Entry<Plain<'h>>>,
     pub back: Vec<Plain<'h>>,
-    /// What the last turn sent. Its log stays empty.
+    /// What the last turn sent.
     pub out: TurnOut,
 }
 
@@ -40,7 +40,7 @@ impl<'h> Desk<'h> {
         Ok(Desk {
             items: Vec::with_capacity(alloc, MOST_ENTRIES as usize)?,
             back: Vec::with_capacity(alloc, (MOST_ENTRIES + events) as usize)?,
-            out: TurnOut::make(alloc, 0, 0, most_sent(MOST_CONTEXT, MOST_ENTRIES, events))?,
+            out: TurnOut::make(alloc, most_sent(MOST_CONTEXT, MOST_ENTRIES, events))?,
         })
     }
 

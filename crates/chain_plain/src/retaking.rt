@@ -28,12 +28,11 @@ pub fn retake<'h, B: Parcel, C: Chain<Plain<'h>>>(
     requires kept { C.kept chain ≡ [] }
     requires turns { All (CanTake (C.events chain)) history.now.turns }
     requires items { FitsTurn B.held (C.events chain) items.now }
-    requires out { most_sent 1024 (length items.now) (C.events chain) ≤ (room_of out.old).sent }
+    requires out { most_sent 1024 (length items.now) (C.events chain) ≤ room_of out.old }
     ensures took { (config : Parts) → C.stands chain config [] → AreInOrder (reverse history.now.turns) →
         last_tick history.now.turns ≤ head.now.tick →
         C.stands result config (history.now.turns ++ turn_by B.held head.now items.now ∷ [])
         × Sends config history.now.turns (turn_by B.held head.now items.now) out.new }
-    ensures log { out.new.log ≡ out.old.log }
     ensures room { room_of out.new ≡ room_of out.old }
 {
     let mut turns = history.walk();

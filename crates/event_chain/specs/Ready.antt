@@ -76,5 +76,4 @@ pub record Stays {B W : Type 0} (moments tick : ℕ) (old new : Filters B W) (be
   pub windows : Windowed tick old.windows new.windows
   pub counted : new.counting.outlet.sender.held ≤ old.counting.outlet.sender.held + moments
   pub messages : after.messages ≤ before.messages + moments
-  pub log : after.log ≡ before.log
   pub room : room_of after ≡ room_of before

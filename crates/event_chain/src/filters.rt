@@ -35,9 +35,8 @@ impl<B: Parcel, W: Witness> Filters<B, W> {
         ensures behind { (config : Parts) (before now : ℕ) (moments : List Moment)
             → Rests B.held W.knows config before moments self.old → before ≤ now
             → IsBehind B.held W.knows config (start_of config (qualified config moments)) now moments self.new out.new }
-        ensures log { out.new.log ≡ out.old.log }
         ensures room { room_of out.new ≡ room_of out.old }
-        ensures all_left { out.new.sent_left ≡ (room_of out.old).sent }
+        ensures all_left { out.new.sent_left ≡ room_of out.old }
         ensures can { (entries events : ℕ) → entries ≤ 1024 → events ≤ 256 → CanSend (entries + events + 3) self.new out.new }
         ensures places { HasPlaces self.old → HasPlaces self.new }
         ensures windows { self.new.windows ≡ self.old.windows }

@@ -6,7 +6,6 @@ use Rattle.ids_types.specs.declared.entry.Act.{Act}
 use Rattle.ids_types.specs.declared.entry.Act.TheVariants.{Report, State, SetMode}
 use Rattle.ids_types.specs.declared.entry.Entry.{Entry}
 use Rattle.ids_types.specs.declared.entry.TurnHead.{TurnHead}
-use Rattle.ids_types.specs.Output.{Output, room_of}
 use Rattle.chain_spec.specs.Items.{kept_parcel}
 use Rattle.filter_chain.specs.Parcels.{IsShort}
 
@@ -28,11 +27,6 @@ FitsAct held events (SetMode event mode) = event.0 < events
 pub record FitsTurn {B : Type 0} (held : B → List ℕ) (events : ℕ) (items : List (Entry B)) : Type 0 where
   pub few : length items ≤ 1024
   pub acts : All (λ entry. FitsAct held events entry.act) items
-
--- the output, counted as where it is empty, has room for the entries with their bytes in its log
-pub record HasLogRoom {B : Type 0} (held : B → List ℕ) (items : List (Entry B)) (out : Output) : Type 0 where
-  pub entries : length items ≤ (room_of out).entries
-  pub bytes : bytes_in held items ≤ (room_of out).bytes
 
 -- how many bytes context data take in a message at most, where none have more bytes than the largest: they themselves,
 -- and four for their number; none where the largest are none

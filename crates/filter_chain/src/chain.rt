@@ -7,10 +7,9 @@ ghost use Rattle.ids_config.specs.Parts.{Parts};
 ghost use Rattle.filter_chain.specs.History.{last_tick, handed_of, rows_of, Sends};
 ghost use Rattle.filter_chain.specs.Kept.{AreAmong, open_contexts};
 ghost use Rattle.filter_chain.specs.Parcels.{HandsBack, IsShort, all_parcels};
-ghost use Rattle.filter_chain.specs.Turning.{FitsLargest, FitsTurn, HasLogRoom, bytes_in, most_sent, turn_by};
+ghost use Rattle.filter_chain.specs.Turning.{FitsLargest, FitsTurn, bytes_in, most_sent, turn_by};
 ghost use Rattle.ids_types.specs.declared.entry.Entry.{Entry};
 
-use crate::logging::log_turn;
 use event_memory::Memory;
 use ids_types::{Entry, NoMemory, Parcel, TurnHead, TurnOut};
 
@@ -55,7 +54,7 @@ pub trait Chain<B: Parcel> {
             stands self.now config turns → reverse result.now.rows ≡ rows_of config turns };
 
     /// Judges a turn: its head and its items, whose parcels it keeps or hands back. The output's messages are those
-    /// of the turn, and its log stays as it is. Takes no memory.
+    /// of the turn. Takes no memory.
     /// Steps: the events that are aggregated, at most 256, at most 3 internal ones, and the entries, at most 1,024. For
     /// each at most one call of each filter, one `Memory::store` and one `Sender::qualify`. Waits: as its chain;
     /// `EventChain`: no. By: no answer; conditions `back`, `out` (`sends_within`), `items` (`FitsTurn`); read off.
@@ -70,7 +69,7 @@ pub trait Chain<B: Parcel> {
         requires items { FitsTurn B.held (events self.old) items.old.items }
         requires kept { All (IsShort B.held) (kept self.old) }
         requires back { vec_len back.old + vec_len items.old + events self.old ≤ vec_capacity back.old }
-        requires out { sends_within self.old items.old.items (room_of out.old).sent }
+        requires out { sends_within self.old items.old.items (room_of out.old) }
         // It stands for the turns with this one, where this tick is no earlier than the last, and sends what
         // these have more to send.
         ensures stands { (config : Parts) (turns : List Turn) → stands self.old config turns →
@@ -79,7 +78,6 @@ pub trait Chain<B: Parcel> {
         ensures sends { (config : Parts) (turns : List Turn) → stands self.old config turns →
             last_tick turns ≤ head.now.tick →
             Sends config turns (turn_by B.held head.now items.old.items) out.new }
-        ensures log { out.new.log ≡ out.old.log }
         ensures events { events self.new ≡ events self.old }
 
         // Each parcel is kept or handed back, and no room is changed.
@@ -89,41 +87,6 @@ pub trait Chain<B: Parcel> {
         ensures items_room { vec_capacity items.new ≡ vec_capacity items.old }
         ensures back_room { vec_capacity back.new ≡ vec_capacity back.old }
         ensures out_room { room_of out.new ≡ room_of out.old };
-
-    /// Takes a turn: logs it, and judges it.
-    /// Steps: one `log_turn` and one `Chain::judge`. Waits: as its chain; `EventChain`: no. By: no answer; no loop;
-    /// conditions as those of `judge`, and `out` (`HasTurnRoom`).
-    fn turn(
-        &mut self,
-        head: &TurnHead,
-        items: &mut Vec<Entry<B>>,
-        back: &mut Vec<B>,
-        out: &mut TurnOut,
-    )
-        requires fits { has_room self.old (length items.old.items) (bytes_in B.held items.old.items) ≡ true }
-        requires items { FitsTurn B.held (events self.old) items.old.items }
-        requires kept { All (IsShort B.held) (kept self.old) }
-        requires back { vec_len back.old + vec_len items.old + events self.old ≤ vec_capacity back.old }
-        requires log { HasLogRoom B.held items.old.items out.old }
-        requires out { sends_within self.old items.old.items (room_of out.old).sent }
-        ensures stands { (config : Parts) (turns : List Turn) → stands self.old config turns →
-            last_tick turns ≤ head.now.tick →
-            stands self.new config (turns ++ turn_by B.held head.now items.old.items ∷ []) }
-        ensures sends { (config : Parts) (turns : List Turn) → stands self.old config turns →
-            last_tick turns ≤ head.now.tick →
-            Sends config turns (turn_by B.held head.now items.old.items) out.new }
-        ensures logs { out.new.log.turns ≡ turn_by B.held head.now items.old.items ∷ [] }
-        ensures events { events self.new ≡ events self.old }
-        ensures parcels { HandsBack (all_parcels items.old.items) (kept self.old) (kept self.new)
-            back.old.items back.new.items }
-        ensures items { items.new.items ≡ [] }
-        ensures items_room { vec_capacity items.new ≡ vec_capacity items.old }
-        ensures back_room { vec_capacity back.new ≡ vec_capacity back.old }
-        ensures out_room { room_of out.new ≡ room_of out.old }
-    {
-        log_turn(head, items, out);
-        self.judge(head, items, back, out);
-    }
 
     /// Each parcel that is kept has the context data of an open window, each window's at most once.
     ghost keeps: { (chain : Self) (config : Parts) (turns : List Turn) → stands chain config turns →

@@ -1,27 +1,32 @@
-//! The log of a turn: its head and its entries, as a history has them.
+//! A turn as a history has it: its head and its entries.
 
-ghost use Rattle.std.specs.Prelude.{◌≡◌, ◌≤◌, [], ◌∷◌, ◌++◌, length};
-ghost use Rattle.ids_types.specs.{room_of, HasRoom, room_after};
+ghost use Rattle.std.specs.Prelude.{◌≡◌, [], ◌∷◌, ◌++◌, length, IfOk, OnOk};
+ghost use Rattle.ids_types.specs.{HasRoom, room_after};
 ghost use Rattle.filter_chain.specs.Turning.{bytes_in, turn_by};
 
 use crate::parcels::lent;
-use ids_types::{Entry, History, Parcel, TurnHead, TurnOut};
+use ids_types::{Entry, History, NoMemory, Parcel, TurnHead};
 
-/// Empties the output, and logs the turn.
-/// Steps: the entries with the bytes of their contexts, and what the log of the turn before held. By: conditions
-/// `entries`, `bytes`; read off.
-pub fn log_turn<B: Parcel>(head: &TurnHead, items: &[Entry<B>], out: &mut TurnOut)
-    requires entries { length items.now ≤ (room_of out.old).entries }
-    requires bytes { bytes_in B.held items.now ≤ (room_of out.old).bytes }
-    ensures log { out.new.log.turns ≡ turn_by B.held head.now items.now ∷ [] }
-    ensures sent { out.new.sent ≡ [] }
-    ensures messages { out.new.messages ≡ 0 }
-    ensures room { room_of out.new ≡ room_of out.old }
+/// Makes room in a history for one turn more with these entries.
+/// Steps: the entries. Memory: may answer want of memory; the history has its old room then. By: `turns`, `room`; read off.
+pub fn reserve_turn<B: Parcel>(items: &[Entry<B>], history: &mut History) -> Result<(), NoMemory>
+    ensures turns { history.new.turns ≡ history.old.turns }
+    ensures room { OnOk result (HasRoom history.new.room 1 (length items.now) (bytes_in B.held items.now)) }
 {
-    out.begin(head);
+    let bytes = context_bytes(items)?;
+    history.reserve(1, items.len() as u64, bytes)
+}
+
+// How many bytes the contexts of entries have.
+fn context_bytes<B: Parcel>(items: &[Entry<B>]) -> Result<u64, NoMemory>
+    ensures { IfOk result (λ bytes. bytes ≡ bytes_in B.held items.now) }
+{
+    let mut bytes = 0u64;
     for entry in items {
-        out.add(&lent(entry));
+        let context = lent(entry).kept_bytes().len() as u64;
+        bytes = bytes.checked_add(context).ok_or(NoMemory)?;
     }
+    Ok(bytes)
 }
 
 /// Adds the turn to a history.

@@ -93,7 +93,7 @@ module _ {setup : Setup} (new : IsNewSetup the_config setup) where
   may_turn is =
       let most : most_bytes (manager_shares setup.manager) ≡ 128 = new.most_is in
       let none : setup.manager.manager.turns ≡ 0 = new.stands_for_none.count_is in
-      let last : setup.manager.manager.last ≡ 0 = new.stands_for_none.tick_is in
+      let last : setup.manager.manager.head.tick ≡ 0 = new.stands_for_none.tick_is in
       record {
         can = record { room = omega (arith, most, is); few = omega (arith, none) };
         later = omega (arith, last);
@@ -108,7 +108,7 @@ module _ {setup : Setup} (new : IsNewSetup the_config setup) where
       let none : setup.manager.manager.turns ≡ 0 = new.stands_for_none.count_is in
       record {
         can = record { room = omega (arith, most, is); few = omega (arith, made.turned.turns_are, none) };
-        later = omega (arith, made.turned.last_is);
+        later = omega (arith, ap (λ head. head.tick) made.turned.head_is, made.turned.tick_is);
         within = omega arith;
       }
 

@@ -86,6 +86,12 @@ turns_extended all entry (r ∷ []) zero row count in_range is at_end = grind (a
 turns_extended all entry (r ∷ s ∷ rows) (suc last) row count in_range is at_end = grind (arith, common_steps, range_of_front, turns_extended all entry (s ∷ rows) last row (omega arith) in_range.1 is at_end)
 turns_extended all entry rows last row count in_range is at_end = absurd (omega arith)
 
+-- as many turns with one entry more
+pub length_with_entry : (turns : List Turn) (entry : Entry (List ℕ)) → length (with_entry turns entry) ≡ length turns
+length_with_entry [] entry = refl
+length_with_entry (turn ∷ []) entry = refl
+length_with_entry (turn ∷ next ∷ turns) entry = ap suc (length_with_entry (next ∷ turns) entry)
+
 -- the entries of turns with one entry more
 pub entries_of-with_entry : (turns : List Turn) (entry : Entry (List ℕ)) → 0 < length turns
     → entries_of (with_entry turns entry) ≡ entries_of turns ++ entry ∷ []

@@ -1,3 +1,2 @@
 pub mod FatesLemmas
 pub mod HistoryLemmas
-pub mod OutputLemmas

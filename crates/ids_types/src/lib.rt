@@ -2,7 +2,7 @@
 //!
 //! Layer 1, values. Stands on nothing; every other crate of the project stands on it. Contracts see an entry as plain
 //! data, with its context as a list of bytes. They see a `History` as the list of its turns beside the room that it
-//! has left, and a `TurnOut` as what a turn was told and what it sent.
+//! has left, and a `TurnOut` as what a turn sent.
 #![tactic(auto)]
 
 mod class_spec;

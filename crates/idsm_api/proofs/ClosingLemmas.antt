@@ -47,10 +47,10 @@ counted callers totals counts = record {
 }
 
 -- the output has just the room for the messages of a turn
-pub room_is : {manager : Manager} → IsFitManager manager → (room_of manager.manager.out).sent ≡ most_bytes (manager_shares manager)
+pub room_is : {manager : Manager} → IsFitManager manager → room_of manager.manager.out ≡ most_bytes (manager_shares manager)
 room_is fit =
     let mine = fit.is_manager in
-    rw (mine.roomy.out_room.sent_room, mine.largest_is, mine.positions_are, mine.events_are) refl
+    rw (mine.roomy.out_room, mine.largest_is, mine.positions_are, mine.events_are) refl
 
 -- a turn that may be made is not refused
 pub never_refused : {tick room : ℕ} {manager : Manager} (answer : Answer) → MayTurn tick manager room → Refuses tick manager room answer → ⊥

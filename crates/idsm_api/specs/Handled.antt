@@ -39,7 +39,7 @@ RoleSets asks (Turns old) answer new = (answer ≡ OtherRole) × (new ≡ Turns 
 abbrev pub RoleTurns : ℕ → Role → List ℕ → TurnAnswer → Role → List ℕ → Type 0
 RoleTurns tick (Turns old) buffer turned new after =
     (manager : Manager) × (new ≡ Turns manager) × TurnTells tick old buffer turned.answer manager after
-    × (turned.told ≡ told_by turned.answer manager.manager.out)
+    × (turned.told ≡ told_by turned.answer manager.manager)
 RoleTurns tick (Calls old) buffer turned new after =
     (turned.answer ≡ OtherRole) × (turned.told ≡ nothing_told) × (new ≡ Calls old) × (after ≡ buffer)
 

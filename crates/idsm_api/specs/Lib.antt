@@ -15,7 +15,7 @@ pub use Rattle.idsm_api.specs.Calls.{Reports, asked_state, asked_mode, Sets}
 pub use Rattle.idsm_api.specs.Closing.{no_totals, CloseMade, CloseTells, CountsTell}
 pub use Rattle.idsm_api.specs.Handled.{IsFit, RoleReports, RoleSets, RoleTurns, RoleMost, RoleRows, RoleRow, RoleLate}
 pub use Rattle.idsm_api.specs.Making.{passes_of, most_bytes_for, IsNewSetup, MakesSetup}
-pub use Rattle.idsm_api.specs.Roles.{caller_shares, manager_shares, chain_stands, chain_events, chain_kept, StandsFor, most_bytes, IsFitCaller, IsFitManager}
+pub use Rattle.idsm_api.specs.Roles.{caller_shares, manager_shares, ChainManager, unlogged, chain_stands, chain_events, chain_kept, StandsFor, most_bytes, IsFitCaller, IsFitManager}
 pub use Rattle.idsm_api.specs.Turning.{nothing_told, told_in, told_by, MayTurn, Refuses, TurnMade, TurnTells}
 pub use Rattle.idsm_api.specs.Writing.{IsWritten, Puts}
 pub use Rattle.idsm_api.specs.declared.answer.Answer.TheVariants.{Done}

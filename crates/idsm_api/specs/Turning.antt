@@ -1,7 +1,5 @@
 -- What a turn answers, with its cause, and what it leaves.
 use Rattle.std.specs.Prelude.{◌≡◌, ℕ, ◌≤◌, ◌<◌, ◌^◌, List, length}
-use Rattle.ids_types.specs.Output.{Output}
-use Rattle.ids_types.specs.Turns.{turn_at}
 use Rattle.buffer_classes.specs.Givers.{givers_of}
 use Rattle.report_api.specs.Desks.{desk_memo}
 use Rattle.main_function.specs.{last_of, turns_of, IsQuick, Turned}
@@ -9,27 +7,27 @@ use Rattle.idsm_api.specs.declared.answer.Answer.{Answer}
 use Rattle.idsm_api.specs.declared.answer.Answer.TheVariants.{Done, Spent, TickBack, TickTooLarge, SmallBuffer}
 use Rattle.idsm_api.specs.declared.manager.Manager.{Manager}
 use Rattle.idsm_api.specs.declared.turning.Told.{Told}
-use Rattle.idsm_api.specs.Roles.{chain_kept, chain_stands, manager_shares, most_bytes}
+use Rattle.idsm_api.specs.Roles.{ChainManager, chain_kept, chain_stands, manager_shares, most_bytes, unlogged}
 use Rattle.idsm_api.specs.Writing.{IsWritten}
 
 -- what is told where no turn was made
 abbrev pub nothing_told : Told
 nothing_told = record { bytes = 0; messages = 0; entries = 0; lost_events = 0; lost_contexts = 0 }
 
--- what the turn of an output tells
-abbrev pub told_in : Output → Told
-told_in out = record {
-  bytes = length out.sent;
-  messages = out.messages;
-  entries = length (turn_at out.log.turns 0).entries;
-  lost_events = (turn_at out.log.turns 0).head.lost_events;
-  lost_contexts = (turn_at out.log.turns 0).head.lost_contexts;
+-- what the last turn of a manager tells
+abbrev pub told_in : ChainManager → Told
+told_in m = record {
+  bytes = length m.out.sent;
+  messages = m.out.messages;
+  entries = m.taken;
+  lost_events = m.head.lost_events;
+  lost_contexts = m.head.lost_contexts;
 }
 
 -- what is told beside an answer
-abbrev pub told_by : Answer → Output → Told
-told_by Done out = told_in out
-told_by refusal out = nothing_told
+abbrev pub told_by : Answer → ChainManager → Told
+told_by Done m = told_in m
+told_by refusal m = nothing_told
 
 -- neither the manager nor the buffer is changed
 pub record NothingMade (old : Manager) (buffer : List ℕ) (new : Manager) (after : List ℕ) : Type 0 where
@@ -58,9 +56,9 @@ Refuses tick old room other = ⊥
 -- a turn of this tick was made, which may be, in few steps, and all its messages are written
 pub record TurnMade (tick : ℕ) (old : Manager) (buffer : List ℕ) (new : Manager) (after : List ℕ) : Type 0 where
   pub may : MayTurn tick old (length buffer)
-  pub turned : Turned chain_stands chain_kept tick (desk_memo old.manager.desk) (givers_of old.manager.desk.givers) old.manager new.manager
+  pub turned : Turned chain_stands unlogged chain_kept tick (desk_memo old.manager.desk) (givers_of old.manager.desk.givers) old.manager new.manager
   pub quick : IsQuick (manager_shares old) 0 old.manager.desk new.manager.desk
-  pub same : new ≡ record old { manager = new.manager; last = tick }
+  pub same : new ≡ record old { manager = new.manager }
   pub written : IsWritten new.manager.out.sent buffer after
 
 -- each answer of a turn with its cause, and the manager and the buffer after it

@@ -9,7 +9,7 @@ use crate::caller::Caller;
 use crate::manager::Manager;
 use config_json::{JsonFault, read};
 use event_chain::EventChain;
-use filter_chain::most_sent;
+use filter_chain::{Unlogged, most_sent};
 use ids_config::Config;
 use ids_types::NoMemory;
 use report_api::{Pass, Shared};
@@ -64,7 +64,7 @@ impl Manager {
         ensures { IfOk result (IsNewSetup config.now) }
     {
         let chain = EventChain::make(alloc, config)?;
-        let made = main_function::make(alloc, config, chain)?;
+        let made = main_function::make(alloc, config, chain, Unlogged)?;
         let shared = Arc::new(alloc, made.shared)?;
         let callers = callers_of(alloc, &shared, made.passes)?;
         let passes = Vec::with_capacity(alloc, callers.len())?;
@@ -76,7 +76,6 @@ impl Manager {
             shared,
             manager: made.manager,
             passes,
-            last: 0,
             most,
             classes,
         };

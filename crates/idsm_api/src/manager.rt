@@ -10,9 +10,9 @@ use crate::answer::Answer;
 use crate::caller::Caller;
 use crate::closing::{CloseAnswer, not_closed, take_passes};
 use crate::reading::{RowAnswer, hand_over_row};
-use crate::turning::{TurnAnswer, hand_over, refused};
-use event_chain::EventChain;
-use report_api::{CtxBuf, Pass, Shared};
+use crate::turning::{ChainManager, TurnAnswer, refused, told_in};
+use crate::writing::put;
+use report_api::{Pass, Shared};
 use std::sync::Arc;
 
 /// How many turns a manager makes at most.
@@ -28,11 +28,9 @@ const MAX_TICK: u64 = 1 << 62;
 #[derive(Drop)]
 pub struct Manager {
     pub(crate) shared: Arc<Shared>,
-    pub(crate) manager: main_function::Manager<EventChain<CtxBuf>>,
+    pub(crate) manager: ChainManager,
     // Where a close puts the passes of the callers: empty between two calls.
     pub(crate) passes: Vec<Pass>,
-    // The tick of the last turn.
-    pub(crate) last: u64,
     // How many bytes a buffer for the messages of a turn has at least.
     pub(crate) most: u64,
     // How many classes of context data buffers there are.
@@ -57,7 +55,7 @@ impl Manager {
         requires fit { IsFitManager self.old }
         ensures fit { IsFitManager self.new }
         ensures told { TurnTells tick self.old buffer.old result.answer self.new buffer.new }
-        ensures numbers { result.told ≡ told_by result.answer self.new.manager.out }
+        ensures numbers { result.told ≡ told_by result.answer self.new.manager }
         ensures within { result.told.bytes ≤ length buffer.new }
         ensures made { MayTurn tick self.old (length buffer.old) → result.answer ≡ Done }
         ensures callers { (callers : List CallerValue) → AreAllCallers self.old callers → AreAllCallers self.new callers }
@@ -78,7 +76,7 @@ impl Manager {
         requires callers { AreAllCallers self.old callers.old.items }
         ensures fit { IsFitManager self.new }
         ensures told { CloseTells tick self.old callers.old.items buffer.old result.answer self.new callers.new.items buffer.new }
-        ensures numbers { result.told ≡ told_by result.answer self.new.manager.out }
+        ensures numbers { result.told ≡ told_by result.answer self.new.manager }
         ensures counts { CountsTell result.answer callers.old.items result.totals }
         ensures within { result.told.bytes ≤ length buffer.new }
         ensures made { MayTurn tick self.old (length buffer.old) → result.answer ≡ Done }
@@ -95,14 +93,17 @@ impl Manager {
         requires may { MayTurn tick self.old (length buffer.old) }
         ensures fit { IsFitManager self.new }
         ensures made { TurnMade tick self.old buffer.old self.new buffer.new }
-        ensures told { result ≡ record { answer = Done; told = told_in self.new.manager.out } }
+        ensures told { result ≡ record { answer = Done; told = told_in self.new.manager } }
         ensures within { result.told.bytes ≤ length buffer.new }
     {
-        self.last = tick;
         let Ok(out) = self.manager.turn(&self.shared, tick) else {
             unreachable!()
         };
-        hand_over(out, buffer)
+        put(out.sent(), buffer);
+        TurnAnswer {
+            answer: Answer::Done,
+            told: told_in(&self.manager),
+        }
     }
 
     // Makes a close whose turn may be made.
@@ -114,19 +115,18 @@ impl Manager {
         ensures made { CloseMade tick self.old callers.old.items buffer.old self.new buffer.new }
         ensures empty { callers.new.items ≡ [] }
         ensures answer { result.answer ≡ Done }
-        ensures told { result.told ≡ told_in self.new.manager.out }
+        ensures told { result.told ≡ told_in self.new.manager }
         ensures counts { AreCounted callers.old.items result.totals }
         ensures within { result.told.bytes ≤ length buffer.new }
     {
-        self.last = tick;
         take_passes(callers, &mut self.passes);
         let Ok((out, totals)) = self.manager.close(&self.shared, &mut self.passes, tick) else {
             unreachable!()
         };
-        let turned = hand_over(out, buffer);
+        put(out.sent(), buffer);
         CloseAnswer {
-            answer: turned.answer,
-            told: turned.told,
+            answer: Answer::Done,
+            told: told_in(&self.manager),
             totals,
         }
     }
@@ -143,7 +143,7 @@ impl Manager {
         if self.manager.turns() >= MOST_TURNS {
             return Err(Answer::Spent);
         }
-        if tick < self.last {
+        if tick < self.manager.head().tick {
             return Err(Answer::TickBack);
         }
         if tick > MAX_TICK {

@@ -1,10 +1,13 @@
 //! What a turn answers.
-ghost use Rattle.std.specs.Prelude.{◌≡◌, ◌<◌, ◌≤◌, length};
-ghost use Rattle.idsm_api.specs.{Done, nothing_told, told_in, IsWritten};
+ghost use Rattle.std.specs.Prelude.{◌≡◌};
+ghost use Rattle.idsm_api.specs.{nothing_told, told_in};
 
 use crate::answer::Answer;
-use crate::writing::put;
-use ids_types::TurnOut;
+use event_chain::EventChain;
+use report_api::CtxBuf;
+
+/// The manager over its chain.
+pub(crate) type ChainManager = main_function::Manager<EventChain<CtxBuf>>;
 
 /// What a turn tells in numbers.
 #[derive(Clone, Copy)]
@@ -41,31 +44,16 @@ pub(crate) fn refused(answer: Answer) -> TurnAnswer
     TurnAnswer { answer, told }
 }
 
-/// What the turn of an output tells.
-fn told_in(out: &TurnOut) -> Told
-    requires { 0 < length out.now.log.turns }
-    ensures { result ≡ told_in out.now }
+/// What the last turn of a manager tells.
+pub(crate) fn told_in(manager: &ChainManager) -> Told
+    ensures { result ≡ told_in manager.now }
 {
-    let head = out.log().head(0);
+    let (head, out) = (manager.head(), manager.out());
     Told {
         bytes: out.sent().len() as u64,
         messages: out.messages(),
-        entries: out.log().entries(0),
+        entries: manager.taken(),
         lost_events: head.lost_events,
         lost_contexts: head.lost_contexts,
-    }
-}
-
-/// Writes the messages of a turn that was made to the front of the buffer.
-pub(crate) fn hand_over(out: &TurnOut, buffer: &mut [u8]) -> TurnAnswer
-    requires one { 0 < length out.now.log.turns }
-    requires room { length out.now.sent ≤ length buffer.old }
-    ensures written { IsWritten out.now.sent buffer.old buffer.new }
-    ensures told { result ≡ record { answer = Done; told = told_in out.now } }
-{
-    put(out.sent(), buffer);
-    TurnAnswer {
-        answer: Answer::Done,
-        told: told_in(out),
     }
 }

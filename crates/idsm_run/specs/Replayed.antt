@@ -1,18 +1,11 @@
 -- What a run of `replay` does, with the manager that it answers.
 use Rattle.std.specs.Prelude.{◌≡◌}
 use Rattle.cmd_steps.specs.Names.{AreWritten, AskedFor, Files, Heard, List, Ok, Option, Parts, ReplayFiles, Round, Shelved, asked_in, over, replay, ℕ}
-use Rattle.buffer_classes.specs.Buffers.{Buffer}
-use Rattle.event_chain.specs.Chained.{Chained}
-use Rattle.main_function.specs.declared.manager.Manager.{Manager}
-use Rattle.trace_replay.specs.Replayed.{Gives, IsReplay, gives}
+use Rattle.trace_replay.specs.Replayed.{Gives, IsReplay, RunManager, gives}
 use Rattle.trace_replay.specs.declared.replaying.Replayed.{Replayed as Given}
 use Rattle.cmd_steps.specs.Answered.{RanWith, RunsWith}
 use Rattle.cmd_spec.specs.{IsOneHistory, replay_work}
 use Rattle.idsm_run.specs.declared.traces.Asked.{Asked}
-
--- the manager of a replay
-abbrev pub RunManager : Type 0
-RunManager = Manager (Chained Buffer)
 
 -- a replay of these rounds under this configuration gave this
 abbrev pub IsReplayed : Parts → List Round → Given → Type 0

@@ -7,7 +7,7 @@ use Rattle.std.proofs.lemmas.List.{append-nil, length-append}
 use Rattle.std.specs.Prelude.{replicate}
 use Rattle.std.specs.List.{AllByRecursion}
 use Rattle.ids_config.specs.Parts.{Parts}
-use Rattle.ids_types.proofs.OutputLemmas.{length_with_entry}
+use Rattle.ids_types.proofs.HistoryLemmas.{length_with_entry}
 use Rattle.text_spec.proofs.JournalFits.{all_in_ranges, calls_stay, has_pair-more, in_order, turns_few}
 use Rattle.text_spec.specs.{Past, start, next, fault_of, pair_of, is_in_ranges, Fits, Follows, journal_grammar, begins, lines_told, AreFaultless}
 use Rattle.journal.specs.Fitting.{IsInOrder}

@@ -15,8 +15,8 @@ sum_came f g [] each = refl
 sum_came f g (pass ∷ passes) each =
     omega (arith, each 0 pass refl, sum_came f g passes (λ i. each (suc i)), sum_by-cons f (came pass) (map came passes), sum_by-cons g pass passes)
 
-module _ {C : Type 0} (stands : C → Parts → List Turn → Type 0) (events : C → ℕ) (kept : C → List Buffer) (shared : Shared)
-    (old : Manager C) (desk : Desk) (passes : List PassMemo) (told : desk_memo desk ≡ all_back passes (desk_memo old.desk)) where
+module _ {C L : Type 0} (stands : C → Parts → List Turn → Type 0) (noted : L → Turn → L → Type 0) (events : C → ℕ) (kept : C → List Buffer) (shared : Shared)
+    (old : Manager C L) (desk : Desk) (passes : List PassMemo) (told : desk_memo desk ≡ all_back passes (desk_memo old.desk)) where
   -- a manager to which all passes came back is the one that it was
   pub mine_back : IsManagerOf events kept shared old → IsDeskOf shared desk → to_give_back desk ≡ to_give_back old.desk
       → IsManagerOf events kept shared (record old { desk = desk })
@@ -27,17 +27,17 @@ module _ {C : Type 0} (stands : C → Parts → List Turn → Type 0) (events : 
   stands_back config turns is = let only = only_back passes (desk_memo old.desk) in grind (arith, is, told, only)
 
   -- so a turn that it makes then is one of the manager that it was
-  turned_from : (tick : ℕ) (new : Manager C) → Turned stands kept tick (desk_memo desk) (givers_of desk.givers) (record old { desk = desk }) new
-      → Turned stands kept tick (all_back passes (desk_memo old.desk)) (givers_of desk.givers) old new
+  turned_from : (tick : ℕ) (new : Manager C L) → Turned stands noted kept tick (desk_memo desk) (givers_of desk.givers) (record old { desk = desk }) new
+      → Turned stands noted kept tick (all_back passes (desk_memo old.desk)) (givers_of desk.givers) old new
   turned_from tick new turned = let was = stands_back in grind (arith, turned, told, was)
 
   -- and it is closed by it
-  pub closed_by : (tick : ℕ) (new : Manager C) → (desk_memo desk).back ≡ map came passes
+  pub closed_by : (tick : ℕ) (new : Manager C L) → (desk_memo desk).back ≡ map came passes
       → AllOf (λ i. OnlyWelcomes (length passes)) (givers_of old.desk.givers) (givers_of desk.givers)
-      → Turned stands kept tick (desk_memo desk) (givers_of desk.givers) (record old { desk = desk }) new → IsManagerOf events kept shared new
+      → Turned stands noted kept tick (desk_memo desk) (givers_of desk.givers) (record old { desk = desk }) new → IsManagerOf events kept shared new
       → (AreAllBack (desk_memo desk) → IsAllTaken (desk_memo new.desk))
       → (AreAllBack (desk_memo desk) → AreAllSwept 0 (desk_memo new.desk) × AreAllSwept 1 (desk_memo new.desk))
-      → (AreAllBack (desk_memo desk) → EachSettled new.desk) → Closed stands kept shared tick passes old new
+      → (AreAllBack (desk_memo desk) → EachSettled new.desk) → Closed stands noted kept shared tick passes old new
   unfolding turned_from
   closed_by tick new back givers turned mine taken swept settled =
       let all : AreAllBack (desk_memo desk) = λ i its at. rw (← (at_map_back came passes i its (rw (← back) at)).2) refl in

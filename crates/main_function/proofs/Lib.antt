@@ -4,6 +4,7 @@ mod FittingLemmas
 mod GiverLemmas
 mod HoldLemmas
 mod LargestLemmas
+pub mod LogLemmas
 mod MakingLemmas
 mod QuickLemmas
 mod ReportLemmas

@@ -3,13 +3,13 @@ use Rattle.main_function.proofs.Names.{◌≡◌, ℕ, ◌≤◌, None, List, []
 use Rattle.main_function.proofs.LargestLemmas.{rise_above}
 use Rattle.buffer_classes.specs.declared.class.Class.{Class}
 
-module _ {C : Type 0} (stands : C → Parts → List Turn → Type 0) (events : C → ℕ) (kept : C → List Buffer) (config : Parts) (shared : Shared)
-    (passes : List Pass) (m : Manager C) (making : IsNewMaking config shared passes m.desk) where
+module _ {C L : Type 0} (stands : C → Parts → List Turn → Type 0) (events : C → ℕ) (kept : C → List Buffer) (config : Parts) (shared : Shared)
+    (passes : List Pass) (m : Manager C L) (making : IsNewMaking config shared passes m.desk) where
   -- all is new
-  pub new_manager : (desk : Desk) (chain : C) (largest : ℕ) → IsBuilt desk chain config.ring (length config.events) largest m → largest ≡ largest_size (spec_sizes config.classes)
+  pub new_manager : (desk : Desk) (chain : C) (log : L) (largest : ℕ) → IsBuilt desk chain log config.ring (length config.events) largest m → largest ≡ largest_size (spec_sizes config.classes)
       → largest ≤ 1024 → RiseFrom 0 (spec_sizes config.classes) → config.ring ≤ 1024 → stands chain config [] → events chain ≡ length config.events → kept chain ≡ []
       → IsNewManager stands events kept config shared passes m
-  new_manager desk chain largest built is short rise few fresh are none =
+  new_manager desk chain log largest built is short rise few fresh are none =
       let sizes : sizes_of shared ≡ spec_sizes config.classes = making.is_shared.sizes_are ∙ making.is_config.sizes in
       let given : AllAdmitted (λ size. 1 ≤ size) (sizes_of shared) = rw sizes (rise_above 0 (spec_sizes config.classes) rise) in
       let held = All-nil (IsHeld (sizes_of shared)) in

@@ -6,7 +6,7 @@ pub use Rattle.std.proofs.lemmas.List.Elements.{All-from_recursion, All-weaker, 
 pub use Rattle.std.proofs.lemmas.List.Sums.{sum_by-cons, sum_by_push, fold_push}
 pub use Rattle.std.specs.List.{All, AllByRecursion, fold}
 pub use Rattle.buffer_classes.specs.{Buffer, AllOf, givers_of, AreBuffersIn, IsSpec, Welcomed, AreGiversOf, late_of, spec_sizes, AreSpecs, GaveBack}
-pub use Rattle.filter_chain.specs.{HandsBack, IsShort, all_parcels, parcel_of, FitsAct, FitsLargest, FitsTurn, bytes_in, turn_by, HasLogRoom, most_sent}
+pub use Rattle.filter_chain.specs.{HandsBack, IsShort, all_parcels, parcel_of, FitsAct, FitsLargest, FitsTurn, turn_by, most_sent}
 pub use Rattle.law_closing.proofs.{all_calls, all_accepted, settled_classes, rings_have, or_at}
 pub use Rattle.law_closing.specs.Closed.{came, plain_item}
 pub use Rattle.ids_config.specs.Parts.{Parts, class_of}

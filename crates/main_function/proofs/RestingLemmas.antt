@@ -28,7 +28,7 @@ held_still {shared} {desk} {after} held same gave = record {
       };
 }
 
-module _ {C : Type 0} (events : C → ℕ) (kept : C → List Buffer) (shared : Shared) (mid : Manager C) (desk : Desk) (n : ℕ) (moved : OnlyMoves n mid.desk desk) where
+module _ {C L : Type 0} (events : C → ℕ) (kept : C → List Buffer) (shared : Shared) (mid : Manager C L) (desk : Desk) (n : ℕ) (moved : OnlyMoves n mid.desk desk) where
   -- a manager whose passes go on is the one that it was
   pub mine_moved : IsManagerOf events kept shared mid → IsDeskOf shared desk → IsManagerOf events kept shared (record mid { desk = desk })
   mine_moved mine is_desk = grind (arith, mine, is_desk, moved.memo_is, moved.counts)

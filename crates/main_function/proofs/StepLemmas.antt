@@ -1,5 +1,5 @@
 -- What a manager between two calls can do, and what it is after a turn.
-use Rattle.main_function.proofs.Names.{◌≡◌, ℕ, ◌≤◌, List, [], ◌++◌, ◌*◌, length, IfSome, subst, sym, arith, rules, All, common_steps, All-weaker, recursion_from_All, Entry, AllAdmitted, HandsBack, IsShort, all_parcels, FitsAct, FitsLargest, FitsTurn, parcel_of, HasLogRoom, bytes_in, most_sent, Buffer, AreBuffersIn, queue_positions, DeskMemo, sizes_of, term_sizes, Shared, IsHeld, held, IsManagerOf, Took, Manager}
+use Rattle.main_function.proofs.Names.{◌≡◌, ℕ, ◌≤◌, List, [], ◌++◌, ◌*◌, length, IfSome, subst, sym, arith, rules, All, common_steps, All-weaker, recursion_from_All, Entry, AllAdmitted, HandsBack, IsShort, all_parcels, FitsAct, FitsLargest, FitsTurn, parcel_of, most_sent, Buffer, AreBuffersIn, queue_positions, DeskMemo, sizes_of, term_sizes, Shared, IsHeld, held, IsManagerOf, Took, Manager}
 use Rattle.std.specs.List.Sorted.{IsPermutation}
 use Rattle.std.proofs.lemmas.Bool.Decides.{nat_tests}
 use Rattle.main_function.proofs.FittingLemmas.{held_in, of_items}
@@ -8,7 +8,7 @@ use Rattle.ids_types.specs.Output.{room_of}
 use Rattle.filter_chain.proofs.ParcelLemmas.{all_parcels_of, parcels_keep}
 use Rattle.filter_chain.proofs.RoomLemmas.{most_grows}
 
-module _ {C : Type 0} {events : C → ℕ} {kept : C → List Buffer} {shared : Shared} {m : Manager C} (mine : IsManagerOf events kept shared m) where
+module _ {C L : Type 0} {events : C → ℕ} {kept : C → List Buffer} {shared : Shared} {m : Manager C L} (mine : IsManagerOf events kept shared m) where
   within : AllAdmitted (λ size. size ≤ m.largest) (term_sizes shared.terms)
   within = subst (AllAdmitted (λ size. size ≤ m.largest)) mine.desk_is.is_shared.sizes_are (rw mine.largest_is (largest_admits 0 (sizes_of shared)))
 
@@ -36,29 +36,19 @@ module _ {C : Type 0} {events : C → ℕ} {kept : C → List Buffer} {shared : 
     few_taken = omega (arith, took.few, mine.positions_are)
 
     items_are : All (λ (e : Entry Buffer). FitsAct held shared.terms.events e.act) taken × All (λ (e : Entry Buffer). IfSome (parcel_of e.act) (IsHeld (term_sizes shared.terms))) taken
-        × (bytes_in held taken ≤ length taken * m.largest)
     items_are = of_items shared.terms m.largest within mine.roomy.short taken took.admitted
 
     -- the chain can take what was taken
     pub can_take : FitsTurn held (events m.chain) taken
     can_take = rw mine.events_are record { few = omega (arith, few_taken, mine.roomy.few_positions); acts = items_are.0 }
 
-    -- and it is no more than the room is for
-    few_bytes : bytes_in held taken ≤ m.positions * m.largest
-    few_bytes =
-        let few = few_taken in
-        search (rules, few, items_are.2)
-
-    pub has_room : HasLogRoom held taken m.out
-    has_room = grind (arith, common_steps, few_taken, few_bytes, mine.roomy.out_room)
-
-    -- nor is what was taken larger
+    -- and none of it is larger than the largest class
     pub taken_fit : All (FitsLargest held m.largest) (all_parcels taken)
     taken_fit = held_fit (all_parcels taken) (all_parcels_of (IsHeld (term_sizes shared.terms)) taken items_are.1)
 
     -- and so the messages find room
-    pub has_sent_room : most_sent m.largest (length taken) (events m.chain) ≤ (room_of m.out).sent
-    has_sent_room = omega (arith, most_grows m.largest (length taken) m.positions (events m.chain) few_taken, mine.roomy.out_room.sent_room)
+    pub has_sent_room : most_sent m.largest (length taken) (events m.chain) ≤ room_of m.out
+    has_sent_room = omega (arith, most_grows m.largest (length taken) m.positions (events m.chain) few_taken, mine.roomy.out_room)
 
     module _ {now back_before back : List Buffer} (hands : HandsBack (all_parcels taken) (kept m.chain) now back_before back) where
       -- what comes out of the turn is given back or kept

@@ -43,12 +43,12 @@ pub record AreCountsOf (passes : List PassMemo) (totals : Totals) : Type 0 where
   pub lost_events_are : totals.lost_events ≡ sum_by lost_events passes
   pub lost_contexts_are : totals.lost_contexts ≡ sum_by (λ pass. missing_in pass.log) passes
 
-module _ {C : Type 0} (stands : C → Parts → List Turn → Type 0) (kept : C → List Buffer) (shared : Shared) where
+module _ {C L : Type 0} (stands : C → Parts → List Turn → Type 0) (noted : L → Turn → L → Type 0) (kept : C → List Buffer) (shared : Shared) where
   -- these passes came back, and a last turn of this tick took all that was left
-  pub record Closed (tick : ℕ) (passes : List PassMemo) (old new : Manager C) : Type 0 where
+  pub record Closed (tick : ℕ) (passes : List PassMemo) (old new : Manager C L) : Type 0 where
     pub givers : List Giver
     pub welcomed : AllOf (λ i. OnlyWelcomes (length passes)) (givers_of old.desk.givers) givers
-    pub turned : Turned stands kept tick (all_back passes (desk_memo old.desk)) givers old new
+    pub turned : Turned stands noted kept tick (all_back passes (desk_memo old.desk)) givers old new
     pub are_back : (desk_memo new.desk).back ≡ map came passes
     pub released_is : (desk_memo new.desk).released ≡ (desk_memo old.desk).released
     -- each goes on from what it was when it was released
@@ -66,9 +66,9 @@ module _ {C : Type 0} (stands : C → Parts → List Turn → Type 0) (kept : C 
         → AreSumsOf (turns ++ turned.turn ∷ []) new.totals
     pub counts : AreCountsOf passes new.totals
 
-module _ {C : Type 0} (stands : C → Parts → List Turn → Type 0) (events : C → ℕ) (kept : C → List Buffer) (shared : Shared) where
+module _ {C L : Type 0} (stands : C → Parts → List Turn → Type 0) (noted : L → Turn → L → Type 0) (events : C → ℕ) (kept : C → List Buffer) (shared : Shared) where
   -- what a close of this tick leaves: all closed, with the output lent and the totals told; or nothing changed
-  abbrev pub CloseLeaves : ℕ → List PassMemo → Manager C → Result (Bor Output × Totals) TurnFault → Manager C → Type 0
+  abbrev pub CloseLeaves : ℕ → List PassMemo → Manager C L → Result (Bor Output × Totals) TurnFault → Manager C L → Type 0
   CloseLeaves tick passes old (Ok closed) new = IsManagerOf events kept shared new × (closed.0.now ≡ new.out) × (closed.1 ≡ new.totals)
-      × Closed stands kept shared tick passes old new × IsQuick shared (length passes) old.desk new.desk
+      × Closed stands noted kept shared tick passes old new × IsQuick shared (length passes) old.desk new.desk
   CloseLeaves tick passes old (Err fault) new = new ≡ old

@@ -66,12 +66,12 @@ pub record OnlyMoves (moved : ℕ) (old new : Desk) : Type 0 where
   pub counts : to_give_back new ≡ to_give_back old
   pub givers_are : AllOf (λ i. OnlyMovesGiver moved) (givers_of old.givers) (givers_of new.givers)
 
-module _ {C : Type 0} (stands : C → Parts → List Turn → Type 0) (kept : C → List Buffer) (shared : Shared) where
+module _ {C L : Type 0} (stands : C → Parts → List Turn → Type 0) (noted : L → Turn → L → Type 0) (kept : C → List Buffer) (shared : Shared) where
   -- all these passes were held, and a turn of this tick took all that was left, as a close does. Then they went on, and
   -- know so now
-  pub record Rested (tick : ℕ) (passes nows : List PassMemo) (old new : Manager C) : Type 0 where
-    pub mid : Manager C
-    pub closed : Closed stands kept shared tick passes old mid
+  pub record Rested (tick : ℕ) (passes nows : List PassMemo) (old new : Manager C L) : Type 0 where
+    pub mid : Manager C L
+    pub closed : Closed stands noted kept shared tick passes old mid
     pub new_is : new ≡ record mid { desk = new.desk }
     pub moved : OnlyMoves (length passes) mid.desk new.desk
     pub stands_then : (config : Parts) (turns : List Turn) → Stands stands config mid turns → Stands stands config new turns
@@ -83,9 +83,9 @@ module _ {C : Type 0} (stands : C → Parts → List Turn → Type 0) (kept : C 
     pub go_on : (c : ℕ) (pass : PassMemo) → get_elem? passes c ≡ some pass
         → get_elem? nows c ≡ some (resumed (desk_memo mid.desk).offered (ended pass))
 
-module _ {C : Type 0} (stands : C → Parts → List Turn → Type 0) (events : C → ℕ) (kept : C → List Buffer) (shared : Shared) where
+module _ {C L : Type 0} (stands : C → Parts → List Turn → Type 0) (noted : L → Turn → L → Type 0) (events : C → ℕ) (kept : C → List Buffer) (shared : Shared) where
   -- what a turn at a rest of this tick leaves: a turn made, whose output is lent; or nothing changed
-  abbrev pub RestLeaves : ℕ → List PassMemo → List PassMemo → Manager C → Result (Bor Output) TurnFault → Manager C → Type 0
+  abbrev pub RestLeaves : ℕ → List PassMemo → List PassMemo → Manager C L → Result (Bor Output) TurnFault → Manager C L → Type 0
   RestLeaves tick passes nows old (Ok out) new = IsManagerOf events kept shared new × (out.now ≡ new.out)
-      × Rested stands kept shared tick passes nows old new × IsQuick shared (length passes + length passes) old.desk new.desk
+      × Rested stands noted kept shared tick passes nows old new × IsQuick shared (length passes + length passes) old.desk new.desk
   RestLeaves tick passes nows old (Err fault) new = (new ≡ old) × (nows ≡ passes)

@@ -19,14 +19,17 @@ pub record IsSmallHead (head : TurnHead) : Type 0 where
   pub lost_contexts : head.lost_contexts ≤ 2 ^ 45
   pub limited : head.limited ≤ 2 ^ 45
 
-module _ {C : Type 0} (stands : C → Parts → List Turn → Type 0) (kept : C → List Buffer) where
+module _ {C L : Type 0} (stands : C → Parts → List Turn → Type 0) (noted : L → Turn → L → Type 0) (kept : C → List Buffer) where
   -- a turn of this tick was made, of a desk that knew this, with these givers
-  pub record Turned (tick : ℕ) (desk : DeskMemo) (givers : List Giver) (old new : Manager C) : Type 0 where
+  pub record Turned (tick : ℕ) (desk : DeskMemo) (givers : List Giver) (old new : Manager C L) : Type 0 where
     pub turn : Turn
     pub taken : List (Entry Buffer)
-    pub log_is : new.out.log.turns ≡ turn ∷ []
+    -- it is the last one: the manager has its head and knows how many entries it had, and its log was shown it
+    pub head_is : new.head ≡ turn.head
+    pub taken_is : new.taken ≡ length turn.entries
+    pub noted_is : noted old.log turn new.log
     pub tick_is : turn.head.tick ≡ tick
-    pub head_is : IsSmallHead turn.head
+    pub small : IsSmallHead turn.head
     pub makes : MakesTurn old.positions desk taken turn (desk_memo new.desk)
     pub back_is : (desk_memo new.desk).back ≡ desk.back
     pub released_is : (desk_memo new.desk).released ≡ desk.released
@@ -41,7 +44,6 @@ module _ {C : Type 0} (stands : C → Parts → List Turn → Type 0) (kept : C 
     pub keeps : KeepsRoom old new
     pub rests_are : new.rests ≡ old.rests
     pub turns_are : new.turns ≡ old.turns + 1
-    pub last_is : new.last ≡ tick
 
 -- how many steps a turn makes at most at the report ring: two sweeps, a mark for each item that it takes and one more, a look at the permit word, and a try for each place of which it took none and for each caller
 abbrev pub most_steps : Parts → ℕ
@@ -59,19 +61,15 @@ pub record IsQuick (shared : Shared) (came : ℕ) (old new : Desk) : Type 0 wher
       → get_elem? (givers_of old.givers) i ≡ some before → get_elem? (givers_of new.givers) i ≡ some after
       → length (giver_memo after).moves ≤ length (giver_memo before).moves + most_class_steps config i + came
 
--- the output logged one turn, of this tick
-abbrev pub LogsOne : ℕ → Output → Type 0
-LogsOne tick out = (turn : Turn) × (out.log.turns ≡ turn ∷ []) × (turn.head.tick ≡ tick)
-
 -- a refusal comes exactly where the tick is below the last or too large
 abbrev pub TurnFails : {A : Type 0} → ℕ → ℕ → Result A TurnFault → Type 0
 TurnFails last tick (Ok out) = (last ≤ tick) × (tick ≤ 2 ^ 62)
 TurnFails last tick (Err TickBack) = tick < last
 TurnFails last tick (Err TickTooLarge) = (last ≤ tick) × (2 ^ 62 < tick)
 
-module _ {C : Type 0} (stands : C → Parts → List Turn → Type 0) (events : C → ℕ) (kept : C → List Buffer) (shared : Shared) where
+module _ {C L : Type 0} (stands : C → Parts → List Turn → Type 0) (noted : L → Turn → L → Type 0) (events : C → ℕ) (kept : C → List Buffer) (shared : Shared) where
   -- what a call of this tick leaves: a turn made, whose output is lent; or nothing changed
-  abbrev pub TurnLeaves : ℕ → Manager C → Result (Bor Output) TurnFault → Manager C → Type 0
+  abbrev pub TurnLeaves : ℕ → Manager C L → Result (Bor Output) TurnFault → Manager C L → Type 0
   TurnLeaves tick old (Ok out) new = IsManagerOf events kept shared new × (out.now ≡ new.out)
-      × Turned stands kept tick (desk_memo old.desk) (givers_of old.desk.givers) old new × IsQuick shared 0 old.desk new.desk
+      × Turned stands noted kept tick (desk_memo old.desk) (givers_of old.desk.givers) old new × IsQuick shared 0 old.desk new.desk
   TurnLeaves tick old (Err fault) new = new ≡ old

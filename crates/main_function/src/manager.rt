@@ -5,7 +5,7 @@ ghost use Rattle.ids_config.specs.Parts.{Parts};
 ghost use Rattle.filter_chain.specs.History.{rows_of};
 ghost use Rattle.buffer_classes.specs.Givers.{givers_of, late_of};
 ghost use Rattle.buffer_classes.specs.{AllOf};
-ghost use Rattle.main_function.specs.{AreCountsOf, CloseLeaves, Closed, AreAllPasses, HasPasses, IsManager, IsManagerOf, Stands, StaysSo, last_of, rests_of, turns_of, calls_by, rests_told, with_rest, HasRestRoom, KeepsRestRoom, IsQuick, LogsOne, TurnFails, TurnLeaves, Turned, Rested, RestLeaves, memos_of};
+ghost use Rattle.main_function.specs.{AreCountsOf, CloseLeaves, Closed, AreAllPasses, HasPasses, IsManager, IsManagerOf, Stands, StaysSo, last_of, rests_of, turns_of, without_log, calls_by, rests_told, with_rest, HasRestRoom, KeepsRestRoom, IsQuick, TurnFails, TurnLeaves, Turned, Rested, RestLeaves, memos_of};
 ghost use Rattle.report_queue.specs.{AreAllBack, AreAllSwept, IsAllTaken};
 ghost use Rattle.report_api.specs.{EachSettled, desk_memo, pass_memo};
 
@@ -14,25 +14,27 @@ use crate::rest::{HasPass, RestLog, Totals, TurnFault};
 use crate::resting::{hold_all, release_all};
 use crate::taking::take_ready;
 use event_memory::Memory;
-use filter_chain::ParcelChain;
+use filter_chain::{Log, ParcelChain, Unlogged};
 use ids_types::{Entry, NoMemory, TurnHead, TurnOut};
 use report_api::{CtxBuf, Desk, Pass, Shared};
 
-/// Takes what callers reported, a turn at a time, and has its chain judge it.
+/// Takes what callers reported, a turn at a time, shows the turn to its log, and has its chain judge it.
 ///
 /// Contracts say for which turns it stands (`Stands`), and of which making it is (`IsManagerOf`).
 #[derive(Drop)]
-pub struct Manager<C> {
+pub struct Manager<C, L = Unlogged> {
     pub(crate) desk: Desk,
     pub(crate) chain: C,
+    pub(crate) log: L,
     // What a turn takes, and the buffers that come back from it: both empty between two calls.
     pub(crate) items: Vec<Entry<CtxBuf>>,
     pub(crate) back: Vec<CtxBuf>,
     pub(crate) out: TurnOut,
     pub(crate) rests: RestLog,
     pub(crate) totals: Totals,
-    // The tick of the last turn.
-    pub(crate) last: u64,
+    // The head of the last turn, all 0 before the first, and how many entries it had.
+    pub(crate) head: TurnHead,
+    pub(crate) taken: u64,
     pub(crate) turns: u64,
     // How many event buffers there are.
     pub(crate) positions: u64,
@@ -43,7 +45,7 @@ pub struct Manager<C> {
 /// The largest tick.
 const MAX_TICK: u64 = 1 << 62;
 
-impl<C: ParcelChain<CtxBuf>> Manager<C> {
+impl<C: ParcelChain<CtxBuf>, L: Log<CtxBuf>> Manager<C, L> {
     ghost use Rattle.std.specs.Borrow.{sem};
     ghost use Rattle.std.specs.Io.BufRead.{Rests};
     ghost use Rattle.main_function.specs.contracts.manager.Manager.{the_row};
@@ -52,20 +54,19 @@ impl<C: ParcelChain<CtxBuf>> Manager<C> {
     /// as there are event buffers, the chain judges them, and all buffers that nothing holds are given back. Its
     /// output is lent. A refusal makes no step and changes nothing. It takes no memory, and the number of its steps is
     /// bounded by the numbers of the configuration, whatever the callers do (`IsQuick`).
-    /// Steps: two swaps; at most positions items taken, and one load more; one `Chain::turn`; one `Desk::give_back`;
+    /// Steps: two swaps; at most positions items taken, and one load more; one `Log::note`; one `Chain::judge`; one `Desk::give_back`;
     /// none of these where it is refused. At the report ring at most positions + callers + 4 steps, at a class at
-    /// most buffers + callers + 2. Waits: as its chain; `EventChain`: no. By: `fault`, `after_borrow`
-    /// (`TurnLeaves`: `IsQuick` has the bounds, `MakesTurn` the steps in their order, `KeepsRoom` that no memory is
+    /// most buffers + callers + 2. Waits: as its chain and its log;
+    /// `EventChain`: no. By: `fault`, `after_borrow` (`TurnLeaves`: `IsQuick` has the bounds, `MakesTurn` the steps in their order, `KeepsRoom` that no memory is
     /// taken); answer `TurnFault`, no NoMemory.
     pub fn turn(&mut self, shared: &Shared, tick: u64) -> Result<&TurnOut, TurnFault>
         requires mine { IsManagerOf C.events C.kept shared.now self.old }
         requires few { turns_of self.old < 2 ^ 62 }
         ensures fault { TurnFails (last_of self.old) tick result }
-        ensures lent { IfOk result (λ out. LogsOne tick out.now) }
         ensures room { IfOk result (λ out. room_of out.now ≡ room_of self.old.out) }
         // Once the output is given back, all holds that the turn leaves.
-        ensures* after_borrow { sem 𝓛 (Rests (the_row C.row) self.entry (λ new.
-            TurnLeaves C.stands C.events C.kept shared.now tick self.old result new)) }
+        ensures* after_borrow { sem 𝓛 (Rests (the_row C.row L.row) self.entry (λ new.
+            TurnLeaves C.stands L.noted C.events C.kept shared.now tick self.old result new)) }
     {
         self.check(tick)?;
         self.step(shared, tick);
@@ -89,13 +90,12 @@ impl<C: ParcelChain<CtxBuf>> Manager<C> {
         requires few { turns_of self.old < 2 ^ 62 }
         requires passes { AreAllPasses shared.now (desk_memo self.old.desk) (map P.its passes.old) }
         ensures fault { TurnFails (last_of self.old) tick result }
-        ensures lent { IfOk result (λ out. LogsOne tick out.now) }
         ensures passes { AreAllPasses shared.now (desk_memo self.old.desk) (map P.its passes.new) }
         ensures stays { OnOk result (AllOf (λ i. P.stays) passes.old passes.new) }
         ensures err { OnErr result (passes.new ≡ passes.old) }
         // Once the output is given back, all holds that the turn leaves.
-        ensures* after_borrow { sem 𝓛 (Rests (the_row C.row) self.entry (λ new.
-            RestLeaves C.stands C.events C.kept shared.now tick (memos_of P.its passes.old) (memos_of P.its passes.new) self.old result new)) }
+        ensures* after_borrow { sem 𝓛 (Rests (the_row C.row L.row) self.entry (λ new.
+            RestLeaves C.stands L.noted C.events C.kept shared.now tick (memos_of P.its passes.old) (memos_of P.its passes.new) self.old result new)) }
     {
         self.check(tick)?;
         self.step_at_rest(shared, passes, tick);
@@ -110,7 +110,7 @@ impl<C: ParcelChain<CtxBuf>> Manager<C> {
         requires within { tick ≤ 2 ^ 62 }
         requires passes { AreAllPasses shared.now (desk_memo self.old.desk) (map P.its passes.old) }
         ensures mine { IsManagerOf C.events C.kept shared.now self.new }
-        ensures rested { Rested C.stands C.kept shared.now tick (memos_of P.its passes.old) (memos_of P.its passes.new) self.old self.new }
+        ensures rested { Rested C.stands L.noted C.kept shared.now tick (memos_of P.its passes.old) (memos_of P.its passes.new) self.old self.new }
         ensures quick { IsQuick shared.now (length passes.old + length passes.old) self.old.desk self.new.desk }
         ensures passes { AreAllPasses shared.now (desk_memo self.old.desk) (map P.its passes.new) }
         ensures stays { AllOf (λ i. P.stays) passes.old passes.new }
@@ -136,19 +136,69 @@ impl<C: ParcelChain<CtxBuf>> Manager<C> {
         requires few { turns_of self.old < 2 ^ 62 }
         requires passes { AreAllPasses shared.now (desk_memo self.old.desk) passes.old.items }
         ensures fault { TurnFails (last_of self.old) tick result }
-        ensures lent { IfOk result (λ closed. LogsOne tick closed.0.now) }
         ensures counts { IfOk result (λ closed. AreCountsOf (map pass_memo passes.old.items) closed.1) }
         ensures ok { OnOk result (passes.new.items ≡ []) }
         ensures err { OnErr result (passes.new ≡ passes.old) }
         ensures room { vec_capacity passes.new ≡ vec_capacity passes.old }
         // Once the output is given back, all holds that the close leaves.
-        ensures* after_borrow { sem 𝓛 (Rests (the_row C.row) self.entry (λ new.
-            CloseLeaves C.stands C.events C.kept shared.now tick (map pass_memo passes.old.items) self.old result new)) }
+        ensures* after_borrow { sem 𝓛 (Rests (the_row C.row L.row) self.entry (λ new.
+            CloseLeaves C.stands L.noted C.events C.kept shared.now tick (map pass_memo passes.old.items) self.old result new)) }
     {
         self.check(tick)?;
         self.finish(shared, passes, tick);
         let totals = self.totals;
         Ok((&self.out, totals))
+    }
+
+    /// The head of the last turn, all 0 before the first.
+    pub fn head(&self) -> TurnHead
+        ensures { result ≡ self.now.head }
+    {
+        self.head
+    }
+
+    /// How many entries the last turn had.
+    pub fn taken(&self) -> u64
+        ensures { result ≡ self.now.taken }
+    {
+        self.taken
+    }
+
+    /// What the last turn sent.
+    pub fn out(&self) -> &TurnOut
+        ensures { result.now ≡ self.now.out }
+    {
+        &self.out
+    }
+
+    /// The log that is shown each turn.
+    pub fn log(&self) -> &L
+        ensures { result.now ≡ self.now.log }
+    {
+        &self.log
+    }
+
+    /// The manager without its log, and the log.
+    pub fn part_log(self) -> (Manager<C>, L)
+        ensures manager { result.0 ≡ without_log self }
+        ensures log { result.1 ≡ self.log }
+    {
+        let manager = Manager {
+            desk: self.desk,
+            chain: self.chain,
+            log: Unlogged,
+            items: self.items,
+            back: self.back,
+            out: self.out,
+            rests: self.rests,
+            totals: self.totals,
+            head: self.head,
+            taken: self.taken,
+            turns: self.turns,
+            positions: self.positions,
+            largest: self.largest,
+        };
+        (manager, self.log)
     }
 
     /// How many turns were made.
@@ -221,7 +271,7 @@ impl<C: ParcelChain<CtxBuf>> Manager<C> {
     fn check(&self, tick: u64) -> Result<(), TurnFault>
         ensures { TurnFails (last_of self.now) tick result }
     {
-        if tick < self.last {
+        if tick < self.head.tick {
             return Err(TurnFault::TickBack);
         }
         if tick > MAX_TICK {
@@ -239,7 +289,7 @@ impl<C: ParcelChain<CtxBuf>> Manager<C> {
         requires passes { AreAllPasses shared.now (desk_memo self.old.desk) passes.old.items }
         ensures mine { IsManagerOf C.events C.kept shared.now self.new }
         ensures quick { IsQuick shared.now (length passes.old.items) self.old.desk self.new.desk }
-        ensures closed { Closed C.stands C.kept shared.now tick (map pass_memo passes.old.items) self.old self.new }
+        ensures closed { Closed C.stands L.noted C.kept shared.now tick (map pass_memo passes.old.items) self.old self.new }
         ensures empty { passes.new.items ≡ [] }
         ensures room { vec_capacity passes.new ≡ vec_capacity passes.old }
     {
@@ -254,7 +304,7 @@ impl<C: ParcelChain<CtxBuf>> Manager<C> {
         requires later { last_of self.old ≤ tick }
         requires within { tick ≤ 2 ^ 62 }
         ensures mine { IsManagerOf C.events C.kept shared.now self.new }
-        ensures turned { Turned C.stands C.kept tick (desk_memo self.old.desk) (givers_of self.old.desk.givers) self.old self.new }
+        ensures turned { Turned C.stands L.noted C.kept tick (desk_memo self.old.desk) (givers_of self.old.desk.givers) self.old self.new }
         ensures quick { IsQuick shared.now 0 self.old.desk self.new.desk }
         // Once all passes are back, it takes all that was accepted, sweeps all that was marked, and settles each class.
         ensures all_taken { AreAllBack (desk_memo self.old.desk) → IsAllTaken (desk_memo self.new.desk) }
@@ -271,10 +321,12 @@ impl<C: ParcelChain<CtxBuf>> Manager<C> {
         take_ready(&mut self.desk, shared, &mut self.items);
         let taken = self.items.len() as u64;
         self.totals = self.totals.with(taken, lost_events, lost_contexts);
+        self.log.note(&head, &self.items);
         self.chain
-            .turn(&head, &mut self.items, &mut self.back, &mut self.out);
+            .judge(&head, &mut self.items, &mut self.back, &mut self.out);
         self.desk.give_back(shared, &mut self.back);
-        self.last = tick;
+        self.head = head;
+        self.taken = taken;
         self.turns += 1;
     }
 }

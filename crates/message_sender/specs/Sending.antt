@@ -53,7 +53,6 @@ answered_fate (Some Sent) = let_out
 pub record TakesOne (bytes : ℕ) (old new : SenderParts) (before after : Output) : Type 0 where
   pub sources : new.sources ≡ old.sources
   pub counted : new.held ≤ old.held + 1
-  pub log : after.log ≡ before.log
   pub room : room_of after ≡ room_of before
   pub sent_left : before.sent_left ≤ after.sent_left + bytes
   pub messages : after.messages ≤ before.messages + 1

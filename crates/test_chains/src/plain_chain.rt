@@ -122,14 +122,13 @@ impl<'c, B: Parcel> Chain<B> for PlainChain<'c, B> {
             (bytes_in B.held items.old.items) ≡ true }
         requires items { FitsTurn B.held (length self.old.config.events) items.old.items }
         requires back { vec_len back.old + vec_len items.old + length self.old.config.events ≤ vec_capacity back.old }
-        requires out { most_sent 1024 (length items.old.items) (length self.old.config.events) ≤ (room_of out.old).sent }
+        requires out { most_sent 1024 (length items.old.items) (length self.old.config.events) ≤ room_of out.old }
         ensures stands { (config : Parts) (turns : List Turn) → Stands config turns self.old →
             last_tick turns ≤ head.now.tick →
             Stands config (turns ++ turn_by B.held head.now items.old.items ∷ []) self.new }
         ensures sends { (config : Parts) (turns : List Turn) → Stands config turns self.old →
             last_tick turns ≤ head.now.tick →
             Sends config turns (turn_by B.held head.now items.old.items) out.new }
-        ensures log { out.new.log ≡ out.old.log }
         ensures events { length self.new.config.events ≡ length self.old.config.events }
         ensures room { self.new.history.room ≡
             room_after self.old.history.room 1 (length items.old.items) (bytes_in B.held items.old.items) }

@@ -16,9 +16,9 @@ pub record IsSamePass (shared : Shared) (old new : Pass) : Type 0 where
 abbrev pub ArePassesLeft : Shared → DeskMemo → List Pass → Type 0
 ArePassesLeft shared desk passes = (passes ≡ []) ⊎ AreAllPasses shared desk passes
 
-module _ {C : Type 0} (events : C → ℕ) (kept : C → List Buffer) where
+module _ {C L : Type 0} (events : C → ℕ) (kept : C → List Buffer) where
   -- the manager is the one of its making, between two calls, with so many classes
-  pub record IsRunning (classes : ℕ) (made : Made C) : Type 0 where
+  pub record IsRunning (classes : ℕ) (made : Made C L) : Type 0 where
     pub manager_is : IsManagerOf events kept made.shared made.manager
     pub classes_are : classes ≡ length (sizes_of made.shared)
     pub passes_are : ArePassesLeft made.shared (desk_memo made.manager.desk) made.passes.items

@@ -10,19 +10,38 @@ ghost use Rattle.test_reports.specs.Running.{IsRunning};
 use crate::calls::{call, number, word};
 use config_json::read;
 use event_chain::EventChain;
-use filter_chain::ParcelChain;
+use filter_chain::{Log, ParcelChain, record_turn, reserve_turn};
 use ids_config::Config;
-use ids_types::{NoMemory, TurnOut};
-use main_function::{Made, Totals, TurnFault, make};
+use ids_types::{Entry, History, NoMemory, TurnHead};
+use main_function::{Made, Manager, Totals, TurnFault, make};
 use report_api::CtxBuf;
 use std::alloc::Global;
 use std::test::Fail;
 use text_spec::{push_field, push_hex, push_number};
 
+// The last turn, as a history of one; of none if there was no memory for it.
+#[derive(Drop)]
+struct LastTurn {
+    history: History,
+}
+
+impl Log<CtxBuf> for LastTurn {
+    ghost use Rattle.std.specs.Prelude.{⊤};
+
+    ghost noted = { λ old turn new. ⊤ };
+
+    fn note(&mut self, head: &TurnHead, items: &[Entry<CtxBuf>]) {
+        self.history.clear();
+        if reserve_turn(items, &mut self.history).is_ok() {
+            record_turn(head, items, &mut self.history);
+        }
+    }
+}
+
 // A manager with its passes, as long as they are not back, and how many classes there are.
 #[derive(Drop)]
 struct Run<C> {
-    made: Made<C>,
+    made: Made<C, LastTurn>,
     classes: usize,
 }
 
@@ -80,7 +99,7 @@ impl<C: ParcelChain<CtxBuf>> Run<C> {
             return Ok(told.extend_from_slice(b"no room")?);
         }
         match self.made.manager.turn(&self.made.shared, tick) {
-            Ok(out) => tell_turn(alloc, out, told),
+            Ok(_) => tell_turn(alloc, &self.made.manager, told),
             Err(fault) => tell_fault(told, fault),
         }
     }
@@ -97,8 +116,8 @@ impl<C: ParcelChain<CtxBuf>> Run<C> {
             .manager
             .close(&self.made.shared, &mut self.made.passes, tick)
         {
-            Ok((out, totals)) => {
-                tell_turn(alloc, out, told)?;
+            Ok((_, totals)) => {
+                tell_turn(alloc, &self.made.manager, told)?;
                 tell_totals(told, &totals)
             }
             Err(fault) => tell_fault(told, fault),
@@ -164,9 +183,13 @@ fn push_text(told: &mut Vec<u8>, text: &[u8]) -> Result<(), NoMemory> {
 }
 
 // The journal of what a turn took, how many messages it sent, and their bytes.
-fn tell_turn(alloc: Global, out: &TurnOut, told: &mut Vec<u8>) -> Result<(), NoMemory> {
-    let log = journal::print(alloc, out.log(), &[])?;
-    push_text(told, &log)?;
+fn tell_turn<C: ParcelChain<CtxBuf>>(
+    alloc: Global,
+    manager: &Manager<C, LastTurn>,
+    told: &mut Vec<u8>,
+) -> Result<(), NoMemory> {
+    let (log, out) = (manager.log(), manager.out());
+    push_text(told, &journal::print(alloc, &log.history, &[])?)?;
     push_field(told, u64::from(out.messages()))?;
     told.extend_from_slice(b" #")?;
     push_hex(told, out.sent())
@@ -194,8 +217,11 @@ fn first_unlike(
     steps: &'static str,
 ) -> Result<Option<&'static str>, NoMemory> {
     let chain = EventChain::make(alloc, config)?;
+    let log = LastTurn {
+        history: History::make(alloc, 0, 0, 0)?,
+    };
     let mut run = Run {
-        made: make(alloc, config, chain)?,
+        made: make(alloc, config, chain, log)?,
         classes: config.parts().classes.len(),
     };
     run.first_unlike(alloc, steps, &mut Vec::new(alloc))

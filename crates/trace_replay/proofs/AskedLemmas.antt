@@ -1,7 +1,8 @@
 -- What callers had asked of classes at a rest that has just been.
-use Rattle.trace_replay.proofs.Names.{◌≡◌, ◌∙◌, ℕ, ◌≤◌, List, ◌++◌, length, map, PassMemo, ap, sym, refl, arith, length-map, inl, inr, there, at_length, at_map, fate_of, some, get_elem?}
+use Rattle.trace_replay.proofs.Names.{◌≡◌, ◌∙◌, ℕ, List, ◌++◌, length, map, PassMemo, ap, sym, arith, length-map, there, at_length, at_map, fate_of, some, get_elem?}
+use mathlib.Core.Option as maybe
+use mathlib.Core.Option.{none}
 use Rattle.std.specs.Prelude.{Option}
-use Rattle.buffer_classes.proofs.AskLemmas.{below_or, nothing_past}
 use Rattle.buffer_classes.proofs.ByIndexLemmas.{all_then}
 use Rattle.buffer_classes.specs.{AllOf, giver_memo}
 use Rattle.buffer_classes.specs.declared.giver.Giver.{Giver}
@@ -9,8 +10,13 @@ use Rattle.law_closing.specs.{came}
 use Rattle.main_function.specs.{KeepsReleased, ReleasedSeats}
 use Rattle.permit_ring.specs.{IsSettled, ended}
 use Rattle.report_api.specs.{AreTied, asks_back}
-use Rattle.trace_replay.proofs.PastLemmas.{just_released}
-use Rattle.trace_replay.specs.Past.{AreAsked, ReleasedMore, offered_at}
+use Rattle.trace_replay.proofs.PastLemmas.{just_released, none_asked}
+use Rattle.trace_replay.specs.Past.{AreAsked, ReleasedMore}
+
+-- how many buffers were offered by a giver, if there is one
+abbrev pub offered_at : maybe.Option Giver → ℕ
+offered_at none = 0
+offered_at (some giver) = (giver_memo giver).offered
 
 module _ {sizes : List ℕ} {back : List (Option PassMemo)} (passes : List PassMemo) {olds mids news : List Giver} (are : back ≡ map came passes) (tied : AreTied sizes back mids)
     (settled : (i : ℕ) (giver : Giver) → get_elem? mids i ≡ some giver → IsSettled (giver_memo giver)) (keeps : AllOf (λ i. KeepsReleased) olds mids)
@@ -34,11 +40,5 @@ module _ {sizes : List ℕ} {back : List (Option PassMemo)} (passes : List PassM
         let log = (settled i mid.0 mid.1).logs_are caller memo.0 memo.1 in
         let made = length-map memo.0.log fate_of in
         rw (mid.1, memo.1, did.remembers, ← long) (just_released (giver_memo mid.0).released did.nows caller memo.0 (did.go_on caller memo.0 memo.1) log.number_is made (made ∙ sym log.calls_are));
-    no_others = λ i caller beyond. elim (below_or mids i) [
-      | inl mid ↦
-          let out : length passes ≤ caller = grind (arith, beyond, at_length mids i mid.0 mid.1, seats.as_many) in
-          let none = nothing_past (giver_memo mid.0).back caller (omega (arith, out, tied.as_many i mid.0 mid.1, ap length are, length-map passes came)) in
-          rw (mid.1, none) refl
-      | inr past ↦ rw (nothing_past mids i past) refl
-    ];
+    no_others = λ i caller beyond. none_asked passes are tied i caller (rw seats.as_many at beyond);
   }

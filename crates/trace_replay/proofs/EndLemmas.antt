@@ -9,7 +9,8 @@ use Rattle.std.specs.Prelude.{◌≤◌, ◌<◌, ◌*◌, Option, zero}
 use Rattle.buffer_classes.specs.{AllOf, giver_memo}
 use Rattle.buffer_classes.specs.declared.giver.Giver.{Giver}
 use Rattle.history_spec.specs.{AreSettled, ClassRest, class_at}
-use Rattle.main_function.specs.{KeepsReleased}
+use Rattle.main_function.proofs.LogLemmas.{mine_without, stands_without}
+use Rattle.main_function.specs.{KeepsReleased, without_log}
 use Rattle.permit_ring.specs.{GoesOn, IsSettled, SeesRests, ended}
 use Rattle.report_api.specs.{AreTied, asks_back}
 use Rattle.trace_replay.specs.{IsClassRest, ReleasedMore, released_by}
@@ -76,7 +77,7 @@ module _ {C : Type 0} {stands : C → Parts → List Turn → Type 0} {events : 
     (valid : IsValid config) (of_config : trace.callers ≡ config.callers) (rounds : AreRounds config trace.rounds)
     {positions : ℕ} (can : CanPlay shared positions trace) (made_for : IsMadeFor config shared) where
   -- it is a replay of the rounds
-  pub is_replay : IsReplayOver stands events kept config trace.rounds r2.manager (given r2 (losses_by callers))
+  pub is_replay : IsReplayOver stands events kept config trace.rounds (without_log r2.manager) (given r2 (losses_by callers))
   is_replay =
       let between = plays.between in
       let was = plays.records config begun in
@@ -125,8 +126,8 @@ module _ {C : Type 0} {stands : C → Parts → List Turn → Type 0} {events : 
         messages = recorded.transcript.messages;
         shared = shared;
         made_for = made_for;
-        is_manager = closes.advances.manager_is;
-        stands_for = recorded.stands_for;
+        is_manager = mine_without closes.advances.manager_is;
+        stands_for = stands_without recorded.stands_for;
         rests_are = closes.advances.rests_are ∙ between.rests_are ∙ ap (λ n. as_told (all_rests n trace.rounds)) of_config;
         passes = views_of callers;
         are_back = closes.back_is;

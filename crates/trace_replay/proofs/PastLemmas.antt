@@ -118,6 +118,17 @@ module _ {config : Parts} {callers place : ℕ} {turns : List Turn} {released : 
         settled = rw same was.settled;
       }
 
+-- nobody else asked anything
+pub none_asked : {sizes : List ℕ} {back : List (Option PassMemo)} {givers : List Giver} (passes : List PassMemo) → back ≡ map came passes → AreTied sizes back givers
+    → (i caller : ℕ) → (length givers ≤ i) ⊎ (length passes ≤ caller) → asks_back givers caller i ≡ []
+none_asked {givers = givers} passes are tied i caller beyond = elim (below_or givers i) [
+  | inl giver ↦
+      let out : length passes ≤ caller = grind (arith, beyond, at_length givers i giver.0 giver.1) in
+      let none = nothing_past (giver_memo giver.0).back caller (omega (arith, out, tied.as_many i giver.0 giver.1, ap length are, length-map passes came)) in
+      rw (giver.1, none) refl
+  | inr past ↦ rw (nothing_past givers i past) refl
+]
+
 -- a rest that has just been
 pub newly_past : {config : Parts} {callers : ℕ} {turns : List Turn} {givers : List Giver} (before passes nows : List PassMemo) {rest : Rest} {offered : ℕ}
     {class_offered : ℕ → ℕ} {asks : ℕ → ℕ → List Fate} → AreMerged config.ring rest.calls turns (losses_in config.ring passes) → rest.turns ≡ length turns → length passes ≡ callers
@@ -205,22 +216,12 @@ module _ {config : Parts} {callers place : ℕ} {turns : List Turn} {released : 
 
   module _ {sizes : List ℕ} {back : List (Option PassMemo)} (are : back ≡ map came passes) (tied : AreTied sizes back givers)
       (settled : (i : ℕ) (giver : Giver) → get_elem? givers i ≡ some giver → IsSettled (giver_memo giver)) where
-    -- nobody else asked anything
-    none_asked : (caller i : ℕ) → (length givers ≤ i) ⊎ (callers ≤ caller) → asks_back givers caller i ≡ []
-    none_asked caller i beyond = elim (below_or givers i) [
-      | inl giver ↦
-          let out : callers ≤ caller = grind (arith, beyond, at_length givers i giver.0 giver.1) in
-          let none = nothing_past (giver_memo giver.0).back caller (omega (arith, out, many, tied.as_many i giver.0 giver.1, ap length are, length-map passes came)) in
-          rw (giver.1, none) refl
-      | inr past ↦ rw (nothing_past givers i past) refl
-    ]
-
     -- what each caller had asked of each class by then
     abbrev Part : ℕ → ℕ → Type 0
     Part caller i = IsPartOf (length (past.asks caller i)) (past.offered i) (past.asks caller i) (asks_back givers caller i)
 
     none : (caller i : ℕ) → (length givers ≤ i) ⊎ (callers ≤ caller) → Part caller i
-    none caller i beyond = rw (past.asked.no_others i caller beyond, none_asked caller i beyond) (record { first = refl; within = omega arith; sees = λ j claimed at low. cc })
+    none caller i beyond = rw (past.asked.no_others i caller beyond, none_asked passes are tied i caller (rw (← many) at beyond)) (record { first = refl; within = omega arith; sees = λ j claimed at low. cc })
 
     class_part : (caller i : ℕ) → Part caller i
     class_part caller i =

@@ -4,9 +4,11 @@ use Rattle.filter_chain.proofs.TranscriptLemmas.{newest_first, transcript_more}
 use Rattle.buffer_classes.proofs.ByIndexLemmas.{all_then}
 use Rattle.buffer_classes.specs.{givers_of}
 use Rattle.report_api.specs.{asks_back}
-use Rattle.trace_replay.proofs.AskedLemmas.{asked_at_rest, released_more}
-use Rattle.trace_replay.specs.Past.{offered_at}
-use Rattle.trace_replay.specs.Recording.{Gathers}
+use Rattle.trace_replay.proofs.AskedLemmas.{asked_at_rest, released_more, offered_at}
+use Rattle.filter_chain.specs.Transcripts.{Adds}
+use Rattle.filter_chain.specs.declared.transcript.Transcript.{Transcript}
+use Rattle.std.specs.Prelude.{false}
+use Rattle.trace_replay.specs.Recording.{gathers}
 use Rattle.filter_chain.specs.{Sends}
 use Rattle.law_closing.specs.Closed.{came, plain_item}
 use Rattle.main_function.specs.Resting.{Rested}
@@ -16,6 +18,13 @@ use Rattle.buffer_classes.specs.declared.giver.Giver.{Giver}
 pub last_on : (low : ℕ) (ticks more : List ℕ) → last_from low (ticks ++ more) ≡ last_from (last_from low ticks) more
 last_on low [] more = refl
 last_on low (tick ∷ ticks) more = last_on tick ticks more
+
+-- what the log noted is the last turn of the history, also where the desk then moved on
+pub noted_turn : {C : Type 0} (old mid : Manager C Gathered) (turn : Turn) {m : Manager C Gathered} → m ≡ record mid { desk = m.desk } → gathers old.log turn mid.log → m.log.missed ≡ false
+    → m.log.history.turns ≡ old.log.history.turns ++ turn ∷ []
+noted_turn {C} old mid turn is_mid noted there =
+    let log = ap (λ (x : Manager C Gathered). x.log) is_mid in
+    ap (λ (log : Gathered). log.history.turns) log ∙ noted (sym (ap (λ (log : Gathered). log.missed) log) ∙ there)
 
 module _ {C : Type 0} {stands : C → Parts → List Turn → Type 0} {events : C → ℕ} {kept : C → List Buffer} {shared : Shared} where
   -- turns after turns
@@ -40,40 +49,38 @@ module _ {C : Type 0} {stands : C → Parts → List Turn → Type 0} {events : 
         classes_are = all_then first.classes_are then.classes_are (λ i old mid new one more. more ∙ one);
       }
 
-  module _ {old : Recorder C} {m : Manager C} {g : Gathered} (is : IsManagerOf events kept shared old.manager)
-      (now : IsManagerOf events kept shared m) (adds : Gathers m.out old.gathered g) where
+  module _ {old : Recorder C} {m : Manager C Gathered} {t : Transcript} (is : IsManagerOf events kept shared old.manager)
+      (now : IsManagerOf events kept shared m) (adds : Adds m.out old.transcript t) (there : m.log.missed ≡ false) where
     -- a turn that was made and gathered, also where the desk then moved on
-    pub advances : {tick : ℕ} {desk : DeskMemo} {givers : List Giver} {mid : Manager C} → m ≡ record mid { desk = m.desk }
+    pub advances : {tick : ℕ} {desk : DeskMemo} {givers : List Giver} {mid : Manager C Gathered} → m ≡ record mid { desk = m.desk }
         → ((config : Parts) (turns : List Turn) → Stands stands config mid turns → Stands stands config m turns)
-        → Turned stands kept tick desk givers old.manager mid → Advances stands events kept shared (tick ∷ []) old (record { manager = m; gathered = g })
+        → Turned stands gathers kept tick desk givers old.manager mid → Advances stands events kept shared (tick ∷ []) old (record { manager = m; transcript = t })
     advances {tick = tick} {mid = mid} is_mid stands_on turned =
         let before = turns_in old in
-        let log : m.out.log.turns ≡ turned.turn ∷ [] = ap (λ (x : Manager C). x.out.log.turns) is_mid ∙ turned.log_is in
-        let history = rw log at adds.history in
+        let history : m.log.history.turns ≡ before ++ turned.turn ∷ [] = noted_turn old.manager mid turned.turn is_mid turned.noted_is there in
         record {
           manager_is = now;
           turns = turned.turn ∷ [];
           turns_are = history;
           ticks_are = ap (λ tick. tick ∷ []) turned.tick_is;
-          small = (record { head_is = turned.head_is; few = rw (turned.makes.entries_are, length-map, ← is.positions_are) turned.makes.few }, tt);
+          small = (record { head_is = turned.small; few = rw (turned.makes.entries_are, length-map, ← is.positions_are) turned.makes.few }, tt);
           records = λ config was. record {
-            stands_for = rw history (stands_on config _ (turned.stands_then config before was.stands_for));
+            stands_for = subst (Stands stands config m) (sym history) (stands_on config _ (turned.stands_then config before was.stands_for));
             transcript = rw history (transcript_more was.transcript
-                (subst (λ out. Sends config before turned.turn out) (sym (ap (λ (x : Manager C). x.out) is_mid)) (turned.sends config before was.stands_for)) adds.transcript);
+                (subst (λ out. Sends config before turned.turn out) (sym (ap (λ (x : Manager C Gathered). x.out) is_mid)) (turned.sends config before was.stands_for)) adds);
             causal = rw (history, newest_first before turned.turn) (turned.limited_is config before was.stands_for, was.causal);
           };
-          rests_are = ap rests_told (ap (λ (x : Manager C). x.rests) is_mid ∙ turned.rests_are);
-          last_is = ap (λ (x : Manager C). x.last) is_mid ∙ turned.last_is;
-          count_is = ap (λ (x : Manager C). x.turns) is_mid ∙ turned.turns_are;
+          rests_are = ap rests_told (ap (λ (x : Manager C Gathered). x.rests) is_mid ∙ turned.rests_are);
+          last_is = ap (λ (x : Manager C Gathered). x.head.tick) is_mid ∙ ap (λ head. head.tick) turned.head_is ∙ turned.tick_is;
+          count_is = ap (λ (x : Manager C Gathered). x.turns) is_mid ∙ turned.turns_are;
         }
 
     -- and one that was made at a rest
-    pub at_rest : {tick : ℕ} (passes nows : List PassMemo) → length passes ≡ length (desk_memo old.manager.desk).back → Rested stands kept shared tick passes nows old.manager m
-        → TurnsAtRest stands events kept shared tick passes nows old (record { manager = m; gathered = g })
+    pub at_rest : {tick : ℕ} (passes nows : List PassMemo) → length passes ≡ length (desk_memo old.manager.desk).back → Rested stands gathers kept shared tick passes nows old.manager m
+        → TurnsAtRest stands events kept shared tick passes nows old (record { manager = m; transcript = t })
     at_rest passes nows all rested =
         let closed = rested.closed in
-        let log : m.out.log.turns ≡ closed.turned.turn ∷ [] = ap (λ (x : Manager C). x.out.log.turns) rested.new_is ∙ closed.turned.log_is in
-        let history = rw log at adds.history in
+        let history = noted_turn old.manager rested.mid closed.turned.turn rested.new_is closed.turned.noted_is there in
         let asked = asked_at_rest passes closed.are_back closed.tied closed.settled closed.classes_released rested.classes_remember in
         record {
           advances = advances rested.new_is rested.stands_then closed.turned;

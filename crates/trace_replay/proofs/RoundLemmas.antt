@@ -51,7 +51,7 @@ module _ (shared : Shared) (rounds : List Round) (k : ℕ) (callers : List Calle
       (rest i caller (at_length callers i caller at))
 
   -- they have all passes of a manager whose desk gave out as many
-  abbrev pub has_passes : {C : Type 0} {events : C → ℕ} {kept : C → List Buffer} {m : Manager C} → IsManagerOf events kept shared m
+  abbrev pub has_passes : {C L : Type 0} {events : C → ℕ} {kept : C → List Buffer} {m : Manager C L} → IsManagerOf events kept shared m
       → length callers ≡ length (desk_memo m.desk).back → HasPasses events kept (passes_of callers) m
   has_passes is all = record {
     shared = shared;
@@ -102,7 +102,7 @@ module _ {C : Type 0} {stands : C → Parts → List Turn → Type 0} {events : 
   -- what was gathered is so still after a rest
   still : {calls : List ℕ} {old new : Recorder C} → RestsOnce stands events kept calls old new → StillRecords stands old new
   still {old = old} once config was =
-      rw once.gathered_is (assumption (once.manager_is.stands_then config (turns_in old) was.stands_for, was.transcript, was.causal))
+      rw (once.turns_are, once.transcript_is) (assumption (once.manager_is.stands_then config (turns_in old) was.stands_for, was.transcript, was.causal))
 
   module _ {shared : Shared} {trace : Traced} {k : ℕ} {r r0 r1 r4 : Recorder C} {old mid new : List Caller}
       (was : Plays stands events kept shared trace k old r r0) (beside : Continues stands events kept shared (round_at trace.rounds k).beside r0 r1)
@@ -118,9 +118,9 @@ module _ {C : Type 0} {stands : C → Parts → List Turn → Type 0} {events : 
         let last = ends.turn.advances in
         let views = λ (callers : List Caller). length-map callers (λ (c : Caller). pass_memo c.pass) in
         let many : length new ≡ trace.callers = sym (views new) ∙ ends.turn.all ∙ views mid ∙ mids in
-        let turned_more : turns_in ends.turned ≡ turns_in r1 ++ last.turns = rw (last.turns_are, ends.before.gathered_is) refl in
+        let turned_more : turns_in ends.turned ≡ turns_in r1 ++ last.turns = rw (last.turns_are, ends.before.turns_are) refl in
         let turns_more : turns_in r4 ≡ turns_in r0 ++ (first.turns ++ last.turns) =
-        rw (ends.after.gathered_is, turned_more, first.turns_are) (append_assoc (turns_in r0) first.turns last.turns) in
+        rw (ends.after.turns_are, turned_more, first.turns_are) (append_assoc (turns_in r0) first.turns last.turns) in
         let more = ticks_more trace.rounds k less in
         let ticks = simp length-append at (ap length more) in
         let ticks_are : map tick_of (turns_in r4) ≡ ticks_before trace.rounds (k + 1) = rw (turns_more, more) (simp map-append (cc (between.ticks_are, first.ticks_are, last.ticks_are))) in
@@ -168,7 +168,7 @@ module _ {C : Type 0} {stands : C → Parts → List Turn → Type 0} {events : 
                 | inl earlier ↦ past_still (first.turns ++ last.turns) (views_of new) (was.pasts config made_for is j earlier) turns_more released grown
                 | inr late ↦
                     let same : j ≡ k = omega (arith, late, below) in
-                    let turned : turns_in r4 ≡ turns_in ends.turned = ap (λ gathered. gathered.history.turns) ends.after.gathered_is in
+                    let turned : turns_in r4 ≡ turns_in ends.turned = ends.after.turns_are in
                     let ended : length (ticks_before trace.rounds (k + 1)) ≡ length (turns_in ends.turned) =
                     ap length (sym ticks_are) ∙ length-map (turns_in r4) tick_of ∙ ap length turned in
                     let merged = (ends.turn.all_calls config made_for rested).merged in

@@ -1,8 +1,5 @@
 -- How many calls a round loses at most.
 use Rattle.trace_replay.proofs.Names.{AllByRecursion, AreRounds, Asked, IsAllowedRound, Parts, All-from_recursion, Round, add-one, all_split, arith, begun_round, flat_map-push, length, length-append, lines_at, lines_before, lines_of, refl, rest_by, round_at, subst, sum_by, sum_by-cons, sym, take, take_all, take_more, take-append-drop, ticks_before, ◌+◌, ◌++◌, ◌-◌, ◌<◌, ◌∙◌, ◌∷◌, ◌≡◌, ◌≤◌, ap, ℕ, zero, suc, List, []}
-use Rattle.buffer_classes.specs.Buffers.{Buffer}
-use Rattle.event_chain.specs.Chained.{Chained}
-use Rattle.main_function.specs.declared.manager.Manager.{Manager}
 use Rattle.history_spec.proofs.LossLemmas.{none_lost}
 use Rattle.history_spec.proofs.RestLemmas.{most as at_most, own_round}
 use Rattle.history_spec.specs.{IsLater, Rested, StandsIn, calls_between, turns_between}
@@ -11,7 +8,7 @@ use Rattle.ids_types.specs.Turns.{entries_of}
 use Rattle.trace_replay.proofs.EndLemmas.{all_map}
 use Rattle.trace_replay.proofs.MergeLemmas.{no_lines}
 use Rattle.trace_replay.proofs.RoundLemmas.{ticks_more}
-use Rattle.trace_replay.specs.Replayed.{Gives, IsReplay}
+use Rattle.trace_replay.specs.Replayed.{Gives, IsReplay, RunManager}
 use Rattle.trace_replay.specs.Rests.{lines_in, lost_in}
 
 -- the lines of one caller more
@@ -45,7 +42,7 @@ module _ (n : ℕ) (rounds : List Round) (each : AllByRecursion (λ round. lengt
   }
 
 -- before each round there is a rest, or the start
-pub rested_before : (config : Parts) (rounds : List Round) (m : Manager (Chained Buffer)) (gives : Gives) → IsReplay config rounds m gives → (k : ℕ) → k < length rounds
+pub rested_before : (config : Parts) (rounds : List Round) (m : RunManager) (gives : Gives) → IsReplay config rounds m gives → (k : ℕ) → k < length rounds
     → Rested config.ring gives.turns gives.losses (rest_by rounds k)
 rested_before config rounds m gives is zero less = record {
   settled = rw (none_lost gives.losses) (record { each_once = λ c call. grind arith; in_order = λ c. tt; legal = λ loss stands. cc; looks_keep_up = λ c. tt; losses_in_order = tt });
@@ -62,14 +59,14 @@ pub later_round : (config : Parts) (rounds : List Round) → AreRounds config ro
 later_round config rounds are k less = later config.callers rounds (each_caller config rounds are) k less
 
 -- each entry of a round is that of one of its calls
-pub own_lines : (config : Parts) (rounds : List Round) (m : Manager (Chained Buffer)) (gives : Gives) (k : ℕ) → IsReplay config rounds m gives → AreRounds config rounds
+pub own_lines : (config : Parts) (rounds : List Round) (m : RunManager) (gives : Gives) (k : ℕ) → IsReplay config rounds m gives → AreRounds config rounds
     → k < length rounds → (e : Entry (List ℕ)) → StandsIn (entries_of (turns_between (rest_by rounds k) (rest_by rounds (k + 1)) gives.turns)) e
     → (length (lines_before rounds k e.caller) ≤ e.call) × (e.call < length (lines_before rounds (k + 1) e.caller))
 own_lines config rounds m gives k is are less = own_round config.ring config.callers gives.turns gives.losses (rest_by rounds k) (rest_by rounds (k + 1))
     (rested_before config rounds m gives is k less).settled (is.rested k less).settled (later_round config rounds are k less)
 
 -- between two rests at most so many are lost
-pub most : (config : Parts) (rounds : List Round) (m : Manager (Chained Buffer)) (gives : Gives) (k : ℕ) → IsReplay config rounds m gives → AreRounds config rounds
+pub most : (config : Parts) (rounds : List Round) (m : RunManager) (gives : Gives) (k : ℕ) → IsReplay config rounds m gives → AreRounds config rounds
     → k < length rounds → lost_in rounds k gives.losses ≤ lines_in (round_at rounds k) - config.ring
 most config rounds m gives k is are less =
     let each = each_caller config rounds are in

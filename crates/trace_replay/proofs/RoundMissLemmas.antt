@@ -1,16 +1,15 @@
 -- How many contexts a round misses at most.
-use Rattle.trace_replay.proofs.Names.{List, calls_by, AreRounds, Buffer, Parts, Round, length, ◌+◌, ◌<◌, ◌≤◌, ℕ, Manager}
+use Rattle.trace_replay.proofs.Names.{List, calls_by, AreRounds, Parts, Round, length, ◌+◌, ◌<◌, ◌≤◌, ℕ}
 use Rattle.buffer_classes.specs.{givers_of}
-use Rattle.event_chain.specs.Chained.{Chained}
 use Rattle.history_spec.proofs.AskOrderLemmas.{ask_in_order}
 use Rattle.history_spec.proofs.ClassRestLemmas.{most as at_most}
 use Rattle.history_spec.specs.{AskInOrder, ClassRest, entries_between, greatest, missing_in, too_many}
 use Rattle.ids_types.specs.Fates.{Fate}
 use Rattle.report_api.specs.{asks_back}
 use Rattle.trace_replay.proofs.RoundLossLemmas.{later_round, own_lines}
-use Rattle.trace_replay.specs.Replayed.{Gives, IsReplay, IsRestOf}
+use Rattle.trace_replay.specs.Replayed.{Gives, IsReplay, IsRestOf, RunManager}
 
-module _ (config : Parts) (rounds : List Round) (m : Manager (Chained Buffer)) (gives : Gives) (k : ℕ) (first second : ClassRest)
+module _ (config : Parts) (rounds : List Round) (m : RunManager) (gives : Gives) (k : ℕ) (first second : ClassRest)
     (is : IsReplay config rounds m gives) (are : AreRounds config rounds) (less : k < length rounds) (one : IsRestOf is k first) (other : IsRestOf is (k + 1) second) where
   abbrev log : ℕ → ℕ → List Fate
   log = asks_back (givers_of m.desk.givers)

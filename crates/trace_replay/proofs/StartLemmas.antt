@@ -25,7 +25,7 @@ module _ {C : Type 0} {stands : C → Parts → List Turn → Type 0} {events : 
     {r0 r : Recorder C} (new : IsNewRecorder stands events kept config shared passes r0) (room : StaysSame stands events kept r0 r) where
   -- nothing was gathered yet, where room was made
   pub begins_record : IsRecordOf stands config r
-  begins_record = rw (room.gathered_is, new.no_turns)
+  begins_record = rw (room.turns_are, room.transcript_is, new.no_turns)
       (assumption (room.manager_is.stands_then config [] new.manager_is.stands_for_none, new.nothing_sent.no_bytes, new.nothing_sent.no_ends, new.nothing_sent.no_messages))
 
   module _ (trace : Traced) (callers : List Caller) (are : passes_of callers ≡ passes) (none : losses_by callers ≡ []) (of_config : trace.callers ≡ config.callers) where
@@ -48,8 +48,8 @@ module _ {C : Type 0} {stands : C → Parts → List Turn → Type 0} {events : 
               };
           as_many = many ∙ new.manager_is.making.all_made ∙ sym of_config;
           all = many ∙ new.manager_is.passes_are.all ∙ sym (ap (λ desk. length (desk_memo desk).back) room.manager_is.desk_is);
-          ticks_are = rw (room.gathered_is, new.no_turns) refl;
-          small = rw (room.gathered_is, new.no_turns) tt;
+          ticks_are = rw (room.turns_are, new.no_turns) refl;
+          small = rw (room.turns_are, new.no_turns) tt;
           rests_are = room.rests_are ∙ new.manager_is.no_rests;
           last_is = room.manager_is.last_is ∙ new.manager_is.stands_for_none.tick_is;
           count_is = room.manager_is.turns_are ∙ new.manager_is.stands_for_none.count_is;

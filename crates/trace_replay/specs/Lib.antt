@@ -11,9 +11,9 @@ pub mod Rounds
 pub mod Stages
 pub mod Standing
 pub use Rattle.trace_replay.specs.Hands.{StandsAt}
-pub use Rattle.trace_replay.specs.Past.{WasReleased, offered_at, AreAsked, ReleasedMore, IsPast}
+pub use Rattle.trace_replay.specs.Past.{WasReleased, AreAsked, ReleasedMore, IsPast}
 pub use Rattle.trace_replay.specs.Places.{IsPlaceOf, ArePlaces}
-pub use Rattle.trace_replay.specs.Recording.{tick_of, IsSmallTurn, Gathers, turns_in, released_by, givers_in, IsRecordOf, StillRecords, IsNewRecorder, StaysSame, Advances, Continues, TurnsAtRest, Closes}
+pub use Rattle.trace_replay.specs.Recording.{tick_of, IsSmallTurn, turns_in, released_by, givers_in, IsRecordOf, StillRecords, IsNewRecorder, StaysSame, Advances, Continues, TurnsAtRest, Closes}
 pub use Rattle.trace_replay.specs.Rests.{ticks_before, rest_by, rest_after, IsClassRest, lines_in, lost_in, lines_from, CallerRest, as_told, rests_before, all_rests, TellsCalls, LiesInItsRound}
 pub use Rattle.trace_replay.specs.Rounds.{CanPlay, IsBetween, Plays, RestsOnce, EndsRound}
 pub use Rattle.trace_replay.specs.Stages.{IsSet}

@@ -1,7 +1,6 @@
 -- What a rest that is past has left behind, in what the desk remembers and in the turns.
 use Rattle.std.specs.Prelude.{◌≡◌, ℕ, ◌+◌, ◌<◌, ◌≤◌, ◌⊎◌, List, [], ◌∷◌, ◌++◌, length, map, take}
-use mathlib.Core.Option as maybe
-use mathlib.Core.Option.{some, none}
+use mathlib.Core.Option.{some}
 use lib.ListN.{get_elem?}
 use Rattle.buffer_classes.specs.{giver_memo}
 use Rattle.buffer_classes.specs.declared.giver.Giver.{Giver}
@@ -22,11 +21,6 @@ pub record WasReleased {N : Type 0} (released : List (SeatMemo N)) (place caller
   pub made : calls ≡ length seat.log
   pub before : List SeatRest
   pub rests_are : seat.rests ≡ before ++ record { calls = calls; offered = offered } ∷ []
-
--- how many buffers were offered by a giver, where there is one
-abbrev pub offered_at : maybe.Option Giver → ℕ
-offered_at none = 0
-offered_at (some giver) = (giver_memo giver).offered
 
 -- what so many callers had asked of each class when the givers released their seats, the first of them at this place
 pub record AreAsked (givers : List Giver) (place callers : ℕ) (offered : ℕ → ℕ) (asks : ℕ → ℕ → List Fate) : Type 0 where

@@ -1,7 +1,6 @@
 -- What a replay gathers of the turns of its manager.
-use Rattle.std.specs.Prelude.{◌≡◌, ℕ, ◌+◌, ◌≤◌, List, [], ◌∷◌, ◌++◌, length, map, reverse}
+use Rattle.std.specs.Prelude.{◌≡◌, ℕ, false, ◌+◌, ◌≤◌, List, [], ◌∷◌, ◌++◌, length, map, reverse}
 use Rattle.std.specs.List.{AllByRecursion}
-use Rattle.ids_types.specs.Output.{Output}
 use Rattle.trace_replay.specs.Names.{AreCountsOf, AreSumsOf, IsNewManager, IsManagerOf, Stands, StaysSo, last_of, rests_of, turns_of, IsSmallHead, Buffer, IsCausal, Parts, Turn, desk_memo, PassMemo, Pass, HaveAllCalls, IsMadeFor, came, queue_positions, Shared}
 use mathlib.Core.Option.{some}
 use lib.ListN.{get_elem?}
@@ -15,7 +14,7 @@ use Rattle.main_function.specs.Closing.{KeepsReleased}
 use Rattle.permit_ring.specs.{ReleasedGoOn, ended, resumed}
 use Rattle.report_api.specs.{AreTied, EachSettled, asks_back, sizes_of}
 use Rattle.text_spec.specs.TraceFaults.{last_from}
-use Rattle.filter_chain.specs.Transcripts.{Adds, IsEmpty, IsTranscript}
+use Rattle.filter_chain.specs.Transcripts.{IsEmpty, IsTranscript}
 use Rattle.trace_replay.specs.Past.{AreAsked, ReleasedMore}
 use Rattle.trace_replay.specs.declared.gathered.Gathered.{Gathered}
 use Rattle.trace_replay.specs.declared.recorder.Recorder.{Recorder}
@@ -29,15 +28,14 @@ pub record IsSmallTurn (positions : ℕ) (turn : Turn) : Type 0 where
   pub head_is : IsSmallHead turn.head
   pub few : length turn.entries ≤ positions
 
--- what a turn adds to what was gathered
-pub record Gathers (out : Output) (old new : Gathered) : Type 0 where
-  pub history : new.history.turns ≡ old.history.turns ++ out.log.turns
-  pub transcript : Adds out old.transcript new.transcript
+-- a turn that was not missed is the last one in the history
+abbrev pub gathers : Gathered → Turn → Gathered → Type 0
+gathers old turn new = new.missed ≡ false → new.history.turns ≡ old.history.turns ++ turn ∷ []
 
 module _ {C : Type 0} where
   -- the turns so far
   abbrev pub turns_in : Recorder C → List Turn
-  turns_in r = r.gathered.history.turns
+  turns_in r = r.manager.log.history.turns
 
   -- the passes that its desk released so far, as they then were
   abbrev pub released_by : Recorder C → List PassMemo
@@ -51,7 +49,7 @@ module _ {C : Type 0} (stands : C → Parts → List Turn → Type 0) where
   -- the manager stands for the turns that were gathered, and these gave what was gathered of them
   pub record IsRecordOf (config : Parts) (r : Recorder C) : Type 0 where
     pub stands_for : Stands stands config r.manager (turns_in r)
-    pub transcript : IsTranscript config (turns_in r) r.gathered.transcript
+    pub transcript : IsTranscript config (turns_in r) r.transcript
     -- each turn tells how many events the limits had held back
     pub causal : IsCausal config (reverse (turns_in r))
 
@@ -64,13 +62,14 @@ module _ {C : Type 0} (stands : C → Parts → List Turn → Type 0) (events : 
   pub record IsNewRecorder (config : Parts) (shared : Shared) (passes : List Pass) (r : Recorder C) : Type 0 where
     pub manager_is : IsNewManager stands events kept config shared passes r.manager
     pub no_turns : turns_in r ≡ []
-    pub nothing_sent : IsEmpty r.gathered.transcript
+    pub nothing_sent : IsEmpty r.transcript
 
   -- room was made, and nothing else was changed
   pub record StaysSame (old new : Recorder C) : Type 0 where
     pub manager_is : StaysSo stands events kept old.manager new.manager
     pub rests_are : rests_of new.manager ≡ rests_of old.manager
-    pub gathered_is : new.gathered ≡ old.gathered
+    pub turns_are : turns_in new ≡ turns_in old
+    pub transcript_is : new.transcript ≡ old.transcript
 
   -- turns of these ticks were made, and were gathered
   pub record Advances (shared : Shared) (ticks : List ℕ) (old new : Recorder C) : Type 0 where

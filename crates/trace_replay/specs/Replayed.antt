@@ -6,6 +6,7 @@ use Rattle.history_spec.specs.{AreSettled, ClassRest, IsMerge, Rested, Round}
 use Rattle.law_closing.specs.{calls_by}
 use Rattle.report_api.specs.{asks_back}
 use Rattle.text_spec.specs.JournalReading.{Fits}
+use Rattle.filter_chain.specs.declared.log.Unlogged.{Unlogged}
 use Rattle.filter_chain.specs.History.{count_of, messages_of}
 use Rattle.chain_plain.specs.Telling.{ends_of}
 use Rattle.filter_aggregate.specs.Account.{all_kept}
@@ -13,6 +14,7 @@ use Rattle.event_chain.specs.Chained.{Chained}
 use Rattle.event_chain.specs.Standing.{Stands as ChainStands}
 use Rattle.main_function.specs.Standing.{IsManagerOf, Stands, rests_of}
 use Rattle.trace_replay.specs.Played.{HavePlayed}
+use Rattle.trace_replay.specs.Recording.{turns_in}
 use Rattle.trace_replay.specs.Rests.{IsClassRest, all_rests, as_told, rest_after}
 use Rattle.trace_replay.specs.declared.recorder.Recorder.{Recorder}
 use Rattle.trace_replay.specs.declared.replaying.Replayed.{Replayed}
@@ -28,7 +30,7 @@ pub record Gives : Type 0 where
 module _ {C : Type 0} (stands : C → Parts → List Turn → Type 0) (events : C → ℕ) (kept : C → List Buffer) (config : Parts)
     (rounds : List Round) where
   -- a manager that replayed these rounds, over a chain with these words, and what that gave
-  pub record IsReplayOver (m : Manager C) (gives : Gives) : Type 0 where
+  pub record IsReplayOver (m : Manager C Unlogged) (gives : Gives) : Type 0 where
     -- the turns and the losses are one merge of the callers' lines, and a journal under the configuration
     pub merged : IsMerge config rounds gives.turns gives.losses
     pub fits : Fits config (record { turns = gives.turns; losses = gives.losses })
@@ -61,6 +63,10 @@ module _ {C : Type 0} (stands : C → Parts → List Turn → Type 0) (events : 
     pub classes_rested : (k : ℕ) → k ≤ length rounds → (at : ClassRest)
         × IsClassRest config rounds (givers_of m.desk.givers) gives.turns (calls_by passes) k at
 
+-- the manager of a replay, without its log
+abbrev pub RunManager : Type 0
+RunManager = Manager (Chained Buffer) Unlogged
+
 -- an event chain over context data buffers stands for these turns
 abbrev pub chain_stands : Chained Buffer → Parts → List Turn → Type 0
 chain_stands chain config turns = ChainStands (λ (buf : Buffer). buf.bytes) config (reverse turns) chain
@@ -73,11 +79,11 @@ abbrev pub chain_kept : Chained Buffer → List Buffer
 chain_kept chain = all_kept chain.filters.windows
 
 -- a manager over it that replayed these rounds, and what that gave
-abbrev pub IsReplay : Parts → List Round → Manager (Chained Buffer) → Gives → Type 0
+abbrev pub IsReplay : Parts → List Round → RunManager → Gives → Type 0
 IsReplay config rounds m gives = IsReplayOver chain_stands chain_events chain_kept config rounds m gives
 
 -- the rest by the first k rounds of a replay, as the classes knew it
-abbrev pub IsRestOf : {config : Parts} {rounds : List Round} {m : Manager (Chained Buffer)} {gives : Gives} → IsReplay config rounds m gives → ℕ → ClassRest → Type 0
+abbrev pub IsRestOf : {config : Parts} {rounds : List Round} {m : RunManager} {gives : Gives} → IsReplay config rounds m gives → ℕ → ClassRest → Type 0
 IsRestOf {config} {rounds} {m} {gives} is k at = IsClassRest config rounds (givers_of m.desk.givers) gives.turns (calls_by is.passes) k at
 
 -- what is given besides the manager
@@ -87,9 +93,9 @@ gives r = record { turns = r.history.turns; losses = r.losses.items; sent = r.se
 -- and what a recorder gives, with its callers' losses
 abbrev pub given : {C : Type 0} → Recorder C → List Loss → Gives
 given r losses = record {
-  turns = r.gathered.history.turns;
+  turns = turns_in r;
   losses = losses;
-  sent = r.gathered.transcript.sent.items;
-  ends = r.gathered.transcript.ends.items;
-  messages = r.gathered.transcript.messages;
+  sent = r.transcript.sent.items;
+  ends = r.transcript.ends.items;
+  messages = r.transcript.messages;
 }

@@ -53,7 +53,8 @@ module _ {C : Type 0} (stands : C → Parts → List Turn → Type 0) (events : 
   -- the manager rested, when its passes had made so many calls
   pub record RestsOnce (calls : List ℕ) (old new : Recorder C) : Type 0 where
     pub manager_is : StaysSo stands events kept old.manager new.manager
-    pub gathered_is : new.gathered ≡ old.gathered
+    pub turns_are : turns_in new ≡ turns_in old
+    pub transcript_is : new.transcript ≡ old.transcript
     pub rests_are : rests_of new.manager ≡ with_rest (turns_of old.manager) calls (rests_of old.manager)
 
   -- a round's last turn was made at a rest of these callers, which was recorded before and after it

@@ -1,50 +1,49 @@
-//! What a replay gathers of the turns of its manager.
-ghost use Rattle.std.specs.Prelude.{◌≡◌, ◌++◌, [], length, IfOk, OnOk};
-ghost use Rattle.filter_chain.specs.Transcripts.{IsEmpty};
-ghost use Rattle.trace_replay.specs.Recording.{Gathers};
+//! The log of a replay's manager: the history of its turns.
+ghost use Rattle.std.specs.Prelude.{◌≡◌, [], IfOk, OnOk, false};
 
-use filter_chain::Transcript;
-use ids_types::{History, NoMemory, TurnOut};
+use filter_chain::{Log, record_turn, reserve_turn};
+use ids_types::{Entry, History, NoMemory, Parcel, TurnHead};
 use std::alloc::Global;
 
-/// The turns so far, and what they sent.
+/// The turns so far. A turn for which there was no memory is missed, and then the replay ends.
 #[derive(Debug, Drop)]
 pub(crate) struct Gathered {
     pub(crate) history: History,
-    pub(crate) transcript: Transcript,
+    pub(crate) missed: bool,
 }
 
 impl Gathered {
     /// No turn yet.
     pub(crate) fn make(alloc: Global) -> Result<Gathered, NoMemory>
-        ensures history { IfOk result (λ g. g.history.turns ≡ []) }
-        ensures transcript { IfOk result (λ g. IsEmpty g.transcript) }
+        ensures { IfOk result (λ g. g.history.turns ≡ []) }
     {
         Ok(Gathered {
             history: History::make(alloc, 0, 0, 0)?,
-            transcript: Transcript::make(alloc, 0)?,
+            missed: false,
         })
     }
 
-    /// Adds what a turn gave.
-    pub(crate) fn add(&mut self, out: &TurnOut) -> Result<(), NoMemory>
-        requires { length out.now.log.turns ≡ 1 }
-        ensures { OnOk result (Gathers out.now self.old self.new) }
+    /// Whether the last turn is there.
+    pub(crate) fn check(&self) -> Result<(), NoMemory>
+        ensures { OnOk result (self.now.missed ≡ false) }
     {
-        add_turn(&mut self.history, out.log())?;
-        self.transcript.add(out)
+        if self.missed {
+            return Err(NoMemory);
+        }
+        Ok(())
     }
 }
 
-/// Adds the one turn of a log to the history.
-fn add_turn(history: &mut History, log: &History) -> Result<(), NoMemory>
-    requires { length log.now.turns ≡ 1 }
-    ensures { OnOk result (history.new.turns ≡ history.old.turns ++ log.now.turns) }
-{
-    history.reserve(1, log.total_entries(), log.bytes())?;
-    history.begin(&log.head(0));
-    for i in 0..log.entries(0) {
-        history.add(&log.entry(0, i));
+impl<B: Parcel> Log<B> for Gathered {
+    ghost use Rattle.trace_replay.specs.Recording.{gathers};
+
+    ghost noted = { gathers };
+
+    fn note(&mut self, head: &TurnHead, items: &[Entry<B>]) {
+        let room = reserve_turn(items, &mut self.history);
+        self.missed = room.is_err();
+        if room.is_ok() {
+            record_turn(head, items, &mut self.history);
+        }
     }
-    Ok(())
 }

@@ -1,16 +1,13 @@
 //! What the rests of a replay say: each function has a law as its contract, and no body.
 
 ghost use Rattle.std.specs.Prelude.{ℕ, List, ◌≡◌, ◌+◌, ◌-◌, ◌<◌, ◌≤◌, length};
-ghost use Rattle.buffer_classes.specs.Buffers.{Buffer};
-ghost use Rattle.event_chain.specs.Chained.{Chained};
 ghost use Rattle.history_spec.specs.{ClassRest, StandsIn, entries_between, free_at, from_class, greatest, missing_in, needing, too_many, turns_between};
 ghost use Rattle.history_spec.specs.Names.{Entry};
 ghost use Rattle.history_spec.specs.Rounds.{Round};
 ghost use Rattle.ids_config.specs.Parts.{Parts};
 ghost use Rattle.ids_types.specs.Turns.{entries_of};
-ghost use Rattle.main_function.specs.declared.manager.Manager.{Manager};
 ghost use Rattle.text_spec.specs.TraceReading.{AreRounds};
-ghost use Rattle.trace_replay.specs.Replayed.{Gives, IsReplay, IsRestOf};
+ghost use Rattle.trace_replay.specs.Replayed.{Gives, IsReplay, IsRestOf, RunManager};
 ghost use Rattle.trace_replay.specs.{LiesInItsRound, lines_before, lines_in, lost_in, rest_by};
 ghost use Rattle.trace_text.specs.TraceView.{round_at};
 
@@ -26,7 +23,7 @@ pub fn a_call_lies_in_its_round()
 
 /// Each entry of a round's turns is that of a call that a line of this round asks for.
 pub fn an_entry_stands_in_its_round()
-    ensures { (config : Parts) (rounds : List Round) (m : Manager (Chained Buffer)) (gives : Gives) (k : ℕ) →
+    ensures { (config : Parts) (rounds : List Round) (m : RunManager) (gives : Gives) (k : ℕ) →
         IsReplay config rounds m gives → AreRounds config rounds → k < length rounds → (e : Entry (List ℕ)) →
         StandsIn (entries_of (turns_between (rest_by rounds k) (rest_by rounds (k + 1)) gives.turns)) e →
         (length (lines_before rounds k e.caller) ≤ e.call) × (e.call < length (lines_before rounds (k + 1) e.caller)) }
@@ -35,10 +32,10 @@ pub fn an_entry_stands_in_its_round()
 /// Of the calls of a round at most so many are lost as it has more lines than there are event buffers, and none if it
 /// has no more.
 pub fn no_round_loses_what_fits()
-    ensures most { (config : Parts) (rounds : List Round) (m : Manager (Chained Buffer)) (gives : Gives) (k : ℕ) →
+    ensures most { (config : Parts) (rounds : List Round) (m : RunManager) (gives : Gives) (k : ℕ) →
         IsReplay config rounds m gives → AreRounds config rounds → k < length rounds →
         lost_in rounds k gives.losses ≤ lines_in (round_at rounds k) - config.ring }
-    ensures none { (config : Parts) (rounds : List Round) (m : Manager (Chained Buffer)) (gives : Gives) (k : ℕ) →
+    ensures none { (config : Parts) (rounds : List Round) (m : RunManager) (gives : Gives) (k : ℕ) →
         IsReplay config rounds m gives → AreRounds config rounds → k < length rounds →
         lines_in (round_at rounds k) ≤ config.ring → lost_in rounds k gives.losses ≡ 0 }
 {}
@@ -47,10 +44,10 @@ pub fn no_round_loses_what_fits()
 /// or a larger one, less the buffers of these classes that were free at the rest before the round. The greatest of these is
 /// the bound, and none is missing if each is 0. At the start all are free.
 pub fn no_round_misses_what_fits()
-    ensures most { (config : Parts) (rounds : List Round) (m : Manager (Chained Buffer)) (gives : Gives) (k : ℕ) (first second : ClassRest)
+    ensures most { (config : Parts) (rounds : List Round) (m : RunManager) (gives : Gives) (k : ℕ) (first second : ClassRest)
         (is : IsReplay config rounds m gives) → AreRounds config rounds → k < length rounds → IsRestOf is k first → IsRestOf is (k + 1) second →
         missing_in config (entries_between gives.turns first second) ≤ greatest (length config.classes) (too_many config gives.turns first second) }
-    ensures none { (config : Parts) (rounds : List Round) (m : Manager (Chained Buffer)) (gives : Gives) (k : ℕ) (first second : ClassRest)
+    ensures none { (config : Parts) (rounds : List Round) (m : RunManager) (gives : Gives) (k : ℕ) (first second : ClassRest)
         (is : IsReplay config rounds m gives) → AreRounds config rounds → k < length rounds → IsRestOf is k first → IsRestOf is (k + 1) second →
         ((i : ℕ) → i < length config.classes → needing config i (entries_between gives.turns first second)
         ≤ from_class i (length config.classes) (free_at gives.turns first)) →

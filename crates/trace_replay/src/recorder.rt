@@ -11,7 +11,7 @@ ghost use Rattle.trace_replay.specs.Standing.{passes_of, views_of};
 use crate::caller::Caller;
 use crate::gate::Gate;
 use crate::gathered::Gathered;
-use filter_chain::ParcelChain;
+use filter_chain::{ParcelChain, Transcript};
 use ids_types::NoMemory;
 use main_function::Manager;
 use report_api::{CtxBuf, Pass, Shared};
@@ -23,11 +23,11 @@ const MOST_TURNS: u64 = 1 << 62;
 /// How many rests each round has.
 const RESTS: u64 = 2;
 
-/// A manager, and what its turns gave so far.
+/// A manager, whose log gathers its turns, and what they sent so far.
 #[derive(Drop)]
 pub(crate) struct Recorder<C> {
-    pub(crate) manager: Manager<C>,
-    pub(crate) gathered: Gathered,
+    pub(crate) manager: Manager<C, Gathered>,
+    pub(crate) transcript: Transcript,
 }
 
 impl<C: ParcelChain<CtxBuf>> Recorder<C> {
@@ -51,8 +51,8 @@ impl<C: ParcelChain<CtxBuf>> Recorder<C> {
         let Ok(out) = self.manager.turn(shared, tick) else {
             unreachable!()
         };
-        self.gathered.add(out)?;
-        Ok(())
+        self.transcript.add(out)?;
+        self.manager.log().check()
     }
 
     /// Makes a turn at a rest of all callers.
@@ -74,8 +74,8 @@ impl<C: ParcelChain<CtxBuf>> Recorder<C> {
         let Ok(out) = self.manager.turn_at_rest(shared, callers, tick) else {
             unreachable!()
         };
-        self.gathered.add(out)?;
-        Ok(())
+        self.transcript.add(out)?;
+        self.manager.log().check()
     }
 
     /// Makes a turn of each of these ticks, each after a word to the gate.
@@ -114,8 +114,8 @@ impl<C: ParcelChain<CtxBuf>> Recorder<C> {
         let Ok((out, _)) = self.manager.close(shared, passes, tick) else {
             unreachable!()
         };
-        self.gathered.add(out)?;
-        Ok(())
+        self.transcript.add(out)?;
+        self.manager.log().check()
     }
 
     // Whether the manager can make one turn more.

@@ -1,6 +1,7 @@
 //! The replay of a trace.
 ghost use Rattle.std.specs.Prelude.{◌≡◌, [], length, IfOk};
 ghost use Rattle.text_spec.specs.TraceReading.{AreRounds};
+ghost use Rattle.main_function.specs.{without_log};
 ghost use Rattle.trace_replay.specs.{IsNewRecorder, IsSet};
 ghost use Rattle.trace_replay.specs.Replayed.{IsReplay, IsReplayOver, given, gives};
 
@@ -63,11 +64,14 @@ pub fn replay<R: Threads + Sync, G: Gate + Sync>(
     ensures { IfOk result (λ r. IsReplay config.now trace.now.rounds r.manager (gives r)) }
 {
     let chain = EventChain::make(alloc, config)?;
-    let (Recorder { manager, gathered }, losses) = run(rt, alloc, config, trace, gate, chain)?;
-    let Gathered {
-        history,
-        transcript,
-    } = gathered;
+    let (
+        Recorder {
+            manager,
+            transcript,
+        },
+        losses,
+    ) = run(rt, alloc, config, trace, gate, chain)?;
+    let (manager, Gathered { history, .. }) = manager.part_log();
     let Transcript {
         sent,
         ends,
@@ -98,16 +102,20 @@ fn run<R: Threads + Sync, G: Gate + Sync, C: ParcelChain<CtxBuf> + Drop>(
     requires fresh { C.stands chain config.now [] }
     requires events { C.events chain ≡ length config.now.events }
     requires kept { C.kept chain ≡ [] }
-    ensures { IfOk result (λ run. IsReplayOver C.stands C.events C.kept config.now trace.now.rounds run.0.manager
+    ensures { IfOk result (λ run. IsReplayOver C.stands C.events C.kept config.now trace.now.rounds (without_log run.0.manager)
         (given run.0 run.1.items)) }
 {
-    let gathered = Gathered::make(alloc)?;
+    let log = Gathered::make(alloc)?;
+    let transcript = Transcript::make(alloc, 0)?;
     let Made {
         shared,
         manager,
         passes,
-    } = make(alloc, config, chain)?;
-    let mut recorder = Recorder { manager, gathered };
+    } = make(alloc, config, chain, log)?;
+    let mut recorder = Recorder {
+        manager,
+        transcript,
+    };
     let over = AtomicBool::new(false);
     let positions = config.parts().ring;
     let stage = Stage::make(alloc, &shared, positions, trace, gate, &over)?;
@@ -128,7 +136,7 @@ fn play<R: Threads + Sync, G: Gate + Sync, C: ParcelChain<CtxBuf>>(
     requires rounds { AreRounds config.now stage.now.trace.now.rounds }
     requires set { IsSet stage.now }
     requires new { IsNewRecorder C.stands C.events C.kept config.now stage.now.shared.now passes.items recorder.old }
-    ensures { IfOk result (λ losses. IsReplayOver C.stands C.events C.kept config.now stage.now.trace.now.rounds recorder.new.manager
+    ensures { IfOk result (λ losses. IsReplayOver C.stands C.events C.kept config.now stage.now.trace.now.rounds (without_log recorder.new.manager)
         (given recorder.new losses.items)) }
 {
     let _valid = config.parts();

@@ -41,7 +41,7 @@ pub judge-requires-clause-out : goal.judge-requires-clause-out
 judge-requires-clause-out g c =
     let end = c.loop-head.invariant in
     let told = told_fits _ _ _ c.requires.items in
-    (g.met.C.Chain c.lifetimes (search (rules, c.well_formed))).bounded c.loop-head.chain c.lend.new.places.items (room_of c.args.out.now).sent
+    (g.met.C.Chain c.lifetimes (search (rules, c.well_formed))).bounded c.loop-head.chain c.lend.new.places.items (room_of c.args.out.now)
     (rw end.1.all_events (items_fit _ _ _ _ c.lend.ensures.items told)) end.1.kept (rw (c.lend.ensures.len, end.1.all_events) c.requires.out)
 
 -- the chain took the history, and then this turn

@@ -12,8 +12,8 @@ build-requires-clause-short g c =
     let specs : AreSpecs (map class_of c.deref.result.now) = rw c.deref.ensures.value (valid_specs (parts_of c.read.inside) valid) in
     rw c.largest_of-largest.ensures (largest_least 0 _ (omega arith) specs.each)
 
-pub returns : goal.returns
-returns g c =
+pub returns-clause-manager : goal.returns-clause-manager
+returns-clause-manager g c =
     let config = c.args.config.now in
     let same : parts_of c.read.inside ≡ config = c.read.view_is ∙ c.parts-read.ensures.value in
     let specs = valid_specs config c.parts-read.ensures.valid in
@@ -22,8 +22,8 @@ returns g c =
     c.largest_of-largest.ensures ∙ ap (λ specs. largest_size (spec_sizes specs)) classes in
     let made : IsNewMaking config c.in_ok-parts.parts.shared c.in_ok-parts.parts.passes.items c.in_ok-manager.manager.desk =
     rw c.in_ok-manager.ensures.desk_is c.in_ok-parts.ensures in
-    let built : IsBuilt c.in_ok-parts.parts.desk c.args.chain config.ring (length config.events) c.largest_of-largest.result c.in_ok-manager.manager =
+    let built : IsBuilt c.in_ok-parts.parts.desk c.args.chain c.args.log config.ring (length config.events) c.largest_of-largest.result c.in_ok-manager.manager =
     rw (← same) (search rules) in
     new_manager g.C.Chain.stands g.C.Chain.events g.C.Chain.kept config c.in_ok-parts.parts.shared c.in_ok-parts.parts.passes.items c.in_ok-manager.manager made
-    c.in_ok-parts.parts.desk c.args.chain c.largest_of-largest.result built largest (rw largest (largest_least 0 _ (omega arith) specs.each)) specs.rise
+    c.in_ok-parts.parts.desk c.args.chain c.args.log c.largest_of-largest.result built largest (rw largest (largest_least 0 _ (omega arith) specs.each)) specs.rise
     c.parts-read.ensures.valid.ring.most c.requires.fresh c.requires.events c.requires.kept

@@ -1,4 +1,4 @@
-use Rattle.trace_replay.proofs.Names.{◌+◌, refl, arith, sym, ◌∙◌, Recorder}
+use Rattle.trace_replay.proofs.Names.{◌+◌, refl, arith, sym, ap, ◌∙◌, Gathered, Recorder}
 use Rattle.trace_replay.proofs.RoundLemmas.{has_passes, still_at_rest}
 use Rattle.trace_replay.proofs.rounds.end_round.Goals as goal
 
@@ -25,7 +25,7 @@ rest-requires-2 g c =
 
 pub returns : goal.returns
 returns g c =
-    let rested : Recorder _ = record { manager = c.rest.new.self; gathered = c.args.recorder.now.gathered } in
+    let rested : Recorder _ = record { manager = c.rest.new.self; transcript = c.args.recorder.now.transcript } in
     let turn = c.in_ok-turn_at_rest.ensures in
     record {
       rest = still_at_rest c.args.stage.now.shared.now c.args.stage.now.trace.now.rounds (c.args.round + 1) c.args.callers.now c.turn_at_rest.new.callers
@@ -33,8 +33,8 @@ returns g c =
       ends = record {
         rested = rested;
         turned = c.turn_at_rest.new.self;
-        before = record { manager_is = c.in_ok-rest.ensures.same; gathered_is = refl; rests_are = c.in_ok-rest.ensures.ok };
+        before = record { manager_is = c.in_ok-rest.ensures.same; turns_are = ap (λ (log : Gathered). log.history.turns) c.in_ok-rest.ensures.same.log_is; transcript_is = refl; rests_are = c.in_ok-rest.ensures.ok };
         turn = rw c.after.ensures at turn.turns;
-        after = record { manager_is = c.in_ok-rest-2.ensures.same; gathered_is = refl; rests_are = c.in_ok-rest-2.ensures.ok };
+        after = record { manager_is = c.in_ok-rest-2.ensures.same; turns_are = ap (λ (log : Gathered). log.history.turns) c.in_ok-rest-2.ensures.same.log_is; transcript_is = refl; rests_are = c.in_ok-rest-2.ensures.ok };
       };
     }

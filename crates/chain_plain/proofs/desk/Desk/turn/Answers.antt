@@ -13,7 +13,7 @@ pub judge-requires-clause-out : goal.judge-requires-clause-out
 judge-requires-clause-out g c =
     let items = c.args.self.now.items.items in
     let events = g.C.Chain.events c.args.chain.now in
-    let room : most_sent 1024 (length items) events ≤ (room_of c.args.self.now.out).sent =
+    let room : most_sent 1024 (length items) events ≤ room_of c.args.self.now.out =
     omega (arith, most_grows 1024 (length items) 1024 events c.requires.items.few, c.requires.room.sent_room) in
     search (rules, room, c.requires.items, c.requires.kept)
 

@@ -6,7 +6,7 @@ use Rattle.main_function.proofs.manager.Manager.finish.Goals as goal
 
 pub step-requires-clause-mine : goal.step-requires-clause-mine
 step-requires-clause-mine g c =
-    mine_back g.C.Chain.stands g.C.Chain.events g.C.Chain.kept c.args.shared.now c.args.self.now c.welcome_all.new.desk (map pass_memo c.args.passes.now.items)
+    mine_back g.C.Chain.stands g.L.Log.noted g.C.Chain.events g.C.Chain.kept c.args.shared.now c.args.self.now c.welcome_all.new.desk (map pass_memo c.args.passes.now.items)
     c.welcome_all.ensures.told c.requires.mine c.welcome_all.ensures.mine c.welcome_all.ensures.counts
 
 pub returns-clause-closed : goal.returns-clause-closed
@@ -16,7 +16,7 @@ returns-clause-closed g c =
     let back : (desk_memo c.welcome_all.new.desk).back ≡ map came (map pass_memo passes) =
     rw c.welcome_all.ensures.told (back_from 0 passes (desk_memo old) (λ j pass at. omega (arith, (c.requires.passes.each j pass at).1))
     (omega (arith, c.requires.passes.all))) in
-    closed_by g.C.Chain.stands g.C.Chain.events g.C.Chain.kept c.args.shared.now c.args.self.now c.welcome_all.new.desk (map pass_memo passes)
+    closed_by g.C.Chain.stands g.L.Log.noted g.C.Chain.events g.C.Chain.kept c.args.shared.now c.args.self.now c.welcome_all.new.desk (map pass_memo passes)
     c.welcome_all.ensures.told c.args.tick c.step.new.self back (rw (length-map passes pass_memo) c.welcome_all.ensures.givers)
     c.step.ensures.turned c.step.ensures.mine c.step.ensures.all_taken c.step.ensures.swept c.step.ensures.settled
 

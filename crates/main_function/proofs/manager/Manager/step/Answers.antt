@@ -1,13 +1,14 @@
-use Rattle.main_function.proofs.Names.{AllOf, GaveBack, givers_of, rules, refl, ap, arith, common_steps, TurnHead, turn_by, DeskMemo, desk_memo, MakesTurn, held, item_of, items_of, length-map, ◌∙◌, gave_of, only_reaps}
+use Rattle.main_function.proofs.Names.{AllOf, GaveBack, givers_of, rules, refl, sym, ap, arith, common_steps, TurnHead, turn_by, DeskMemo, desk_memo, MakesTurn, held, item_of, items_of, length-map, ◌∙◌, gave_of, only_reaps}
+use Rattle.ids_types.specs.{entry_by}
 use Rattle.report_queue.proofs.ClosingLemmas.{taken_on}
 use Rattle.main_function.proofs.QuickLemmas.{turn_is_quick}
 use Rattle.main_function.proofs.ReportLemmas.{offered_more, totals_more, turn_adds}
-use Rattle.main_function.proofs.StepLemmas.{can_take, come_back, has_room, has_sent_room, kept_fit, kept_short, taken_fit}
+use Rattle.main_function.proofs.StepLemmas.{can_take, come_back, has_sent_room, kept_fit, kept_short, taken_fit}
 use Rattle.main_function.proofs.TurnedLemmas.{last_within, stands_more}
 use Rattle.main_function.proofs.manager.Manager.step.Goals as goal
 
-pub turn-requires : goal.turn-requires
-turn-requires g c =
+pub judge-requires : goal.judge-requires
+judge-requires g c =
     let mine = c.requires.mine in
     let took = c.take_ready.ensures.took in
     record {
@@ -15,7 +16,6 @@ turn-requires g c =
       items = can_take mine took;
       kept = kept_short mine;
       back = search rules;
-      log = has_room mine took;
       out = g.met.C.ParcelChain.within c.args.self.now.chain c.take_ready.new.items.items c.args.self.now.largest _ (taken_fit mine took) (kept_fit mine)
           (has_sent_room mine took);
     }
@@ -30,7 +30,7 @@ with-self-requires-clause-entries g c =
 
 pub give_back-requires-clause-back : goal.give_back-requires-clause-back
 give_back-requires-clause-back g c =
-    (come_back c.requires.mine c.take_ready.ensures.took c.turn.ensures.parcels c.requires.mine.roomy.no_back).0
+    (come_back c.requires.mine c.take_ready.ensures.took c.judge.ensures.parcels c.requires.mine.roomy.no_back).0
 
 pub returns : goal.returns
 returns g c =
@@ -47,8 +47,8 @@ returns g c =
       entries_are = refl;
       few = omega (arith, took.few, mine.positions_are);
     } in
-    let out = come_back mine took c.turn.ensures.parcels mine.roomy.no_back in
-    let gave : AllOf (GaveBack c.turn.new.back.items) (givers_of c.args.self.now.desk.givers) (givers_of c.give_back.new.self.givers) =
+    let out = come_back mine took c.judge.ensures.parcels mine.roomy.no_back in
+    let gave : AllOf (GaveBack c.judge.new.back.items) (givers_of c.args.self.now.desk.givers) (givers_of c.give_back.new.self.givers) =
     search (rules, c.give_back.ensures.gave, c.take_ready.ensures.same, c.sweep-lost_events.ensures.same) in
     let only = only_reaps (items_of taken) (desk_memo c.sweep-lost_events.new.self) in
     record {
@@ -60,19 +60,21 @@ returns g c =
         offered_is = offered_more _ _ _ _ _ makes mine.offered_is;
         items_within = search rules;
         totals_are = totals_more _ _ _ _ _ makes _ _ mine.totals_are (search (rules, c.with-self.ensures.entries)) c.with-self.ensures.lost_events c.with-self.ensures.lost_contexts;
-        events_are = c.turn.ensures.events ∙ mine.events_are;
+        events_are = c.judge.ensures.events ∙ mine.events_are;
         largest_is = mine.largest_is;
         sizes_given = mine.sizes_given;
         kept_are = out.1;
         tick_within = c.requires.within;
-        roomy = grind (arith, common_steps, mine.roomy, c.turn.ensures, c.give_back.ensures.empty);
+        roomy = grind (arith, common_steps, mine.roomy, c.judge.ensures, c.give_back.ensures.empty);
       };
       turned = record {
         turn = turn_by held head taken;
         taken = taken;
-        log_is = c.turn.ensures.logs;
+        head_is = refl;
+        taken_is = search (rules, length-map taken (entry_by held));
+        noted_is = search (rules, c.note.ensures);
         tick_is = refl;
-        head_is = record {
+        small = record {
           lost_events = last_within _ _ _ (ap (λ (k : DeskMemo). k.swept0) swept.told) swept.bounds.0;
           lost_contexts = last_within _ _ _ (ap (λ (k : DeskMemo). k.swept1) swept.told) swept.bounds.1;
           limited = c.limited.ensures.bound;
@@ -80,19 +82,18 @@ returns g c =
         makes = makes;
         back_is = (turn_adds _ _ _ _ _ makes).back_is;
         released_is = (turn_adds _ _ _ _ _ makes).released_is;
-        buffers = record { back = c.turn.new.back.items; same = out.2; gave = gave };
+        buffers = record { back = c.judge.new.back.items; same = out.2; gave = gave };
         stands_then = λ config turns is. stands_more g.C.Chain.stands config turns _ _ _ taken is
-            (c.turn.ensures.stands config turns is.chain_stands) c.requires.later makes mine.offered_is refl refl refl;
+            (c.judge.ensures.stands config turns is.chain_stands) c.requires.later makes mine.offered_is refl refl refl;
         limited_is = λ config turns is. c.limited.ensures.value config turns is.chain_stands;
-        sends = λ config turns is. search (rules, is.tick_is, c.requires.later, c.turn.ensures.sends config turns is.chain_stands);
+        sends = λ config turns is. search (rules, is.tick_is, c.requires.later, c.judge.ensures.sends config turns is.chain_stands);
         keeps = record {
-          items_are = c.turn.ensures.items_room ∙ c.take_ready.ensures.room;
-          back_are = c.give_back.ensures.room ∙ c.turn.ensures.back_room;
-          out_is = c.turn.ensures.out_room;
+          items_are = c.judge.ensures.items_room ∙ c.take_ready.ensures.room;
+          back_are = c.give_back.ensures.room ∙ c.judge.ensures.back_room;
+          out_is = c.judge.ensures.out_room;
         };
         rests_are = refl;
         turns_are = refl;
-        last_is = refl;
       };
       quick = turn_is_quick mine.desk_is mine.positions_are mine.offered_is makes gave;
       -- no sweep and no take brings a pass back

@@ -10,7 +10,7 @@ use Rattle.main_function.proofs.manager.Manager.step_at_rest.Goals as goal
 
 pub step-requires-clause-mine : goal.step-requires-clause-mine
 step-requires-clause-mine g c =
-    mine_back g.C.Chain.stands g.C.Chain.events g.C.Chain.kept c.args.shared.now c.args.self.now c.hold_all.new.desk (memos_of g.P.HasPass.its c.args.passes.now)
+    mine_back g.C.Chain.stands g.L.Log.noted g.C.Chain.events g.C.Chain.kept c.args.shared.now c.args.self.now c.hold_all.new.desk (memos_of g.P.HasPass.its c.args.passes.now)
     c.hold_all.ensures.told c.requires.mine c.hold_all.ensures.mine c.hold_all.ensures.counts
 
 pub release_all-requires-clause-held : goal.release_all-requires-clause-held
@@ -39,7 +39,7 @@ returns-clause-rested g c =
     let memos = memos_of g.P.HasPass.its c.args.passes.now in
     record {
       mid = c.step.new.self;
-      closed = closed_by g.C.Chain.stands g.C.Chain.events g.C.Chain.kept c.args.shared.now c.args.self.now c.hold_all.new.desk memos c.hold_all.ensures.told
+      closed = closed_by g.C.Chain.stands g.L.Log.noted g.C.Chain.events g.C.Chain.kept c.args.shared.now c.args.self.now c.hold_all.new.desk memos c.hold_all.ensures.told
           c.args.tick c.step.new.self (held g d) (rw (many g d) c.hold_all.ensures.givers) did.turned did.mine did.all_taken did.swept did.settled;
       new_is = refl;
       moved = rw (many g d, ← c.hold_all.ensures.stays.as_many) c.release_all.ensures.moved;

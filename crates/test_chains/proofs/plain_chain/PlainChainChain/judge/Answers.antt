@@ -25,7 +25,7 @@ retake-chain-requires g c κs =
     let many = ap (λ (v : Remembered). length v.config.events) c.self.view_is in
     let ready : IsReady (length windows) c.next-chain.result.desk = rw fresh.events fresh.ready in
     let turns : All (CanTake (length windows)) c.self.inside.history.turns = rw fresh.events c.self.invariant.turns_fit in
-    let asked : FitsTurn g.B.Parcel.held (length windows) items × (most_sent 1024 (length items) (length windows) ≤ (room_of c.args.out.now).sent) =
+    let asked : FitsTurn g.B.Parcel.held (length windows) items × (most_sent 1024 (length items) (length windows) ≤ room_of c.args.out.now) =
     rw (c.deref.ensures.value, fresh.events, many) (c.requires.items, c.requires.out) in
     ((refl, tt), (λ any entries bytes. refl, (ready, (fresh.kept, (turns, asked)))))
 

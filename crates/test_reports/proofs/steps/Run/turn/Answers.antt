@@ -1,3 +1,4 @@
+use Rattle.std.specs.Prelude.{⊤}
 use Rattle.std.proofs.Common.{subst}
 use Rattle.main_function.specs.Turning.{TurnLeaves}
 use Rattle.report_api.specs.Desks.{desk_memo}
@@ -9,7 +10,7 @@ returns-in-Ok g c =
     let chain = g.C.Chain in
     let made = c.args.self.now.made in
     let new = c.turn.follows.lender-at-none in
-    let left = subst (λ answer. TurnLeaves chain.stands chain.events chain.kept made.shared c.args.tick made.manager answer new) c.in-Ok.is
+    let left = subst (λ answer. TurnLeaves chain.stands (λ old turn new. ⊤) chain.events chain.kept made.shared c.args.tick made.manager answer new) c.in-Ok.is
     c.turn.follows.holds-at-none in
     record {
       manager_is = left.0;
