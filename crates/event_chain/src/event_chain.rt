@@ -4,7 +4,7 @@ ghost use Rattle.std.specs.Prelude.{◌≡◌, ◌<◌, [], List, true, length, 
 ghost use Rattle.ids_types.specs.Turns.{Turn};
 ghost use Rattle.ids_config.specs.Parts.{Parts};
 ghost use Rattle.filter_chain.specs.History.{rows_of};
-ghost use Rattle.chain_spec.specs.Moments.{moments};
+ghost use Rattle.chain_spec.specs.{mode_at, moments, state_at};
 ghost use Rattle.filter_aggregate.specs.Account.{all_kept};
 ghost use Rattle.event_chain.specs.{aggregating_in, Stands, StandsWatched};
 
@@ -16,7 +16,7 @@ use filter_aggregate::Windows;
 use filter_chain::{Chain, ParcelChain};
 use filter_gate::GateState;
 use ids_config::Config;
-use ids_types::{Entry, EventIndex, Internal, NoMemory, Parcel, TurnHead, TurnOut};
+use ids_types::{Entry, EventIndex, Internal, Mode, NoMemory, Parcel, TurnHead, TurnOut};
 use internal_events::heads;
 use std::alloc::Global;
 use std::marker::Model;
@@ -87,6 +87,23 @@ impl<B: Parcel, W: Witness> EventChain<B, W> {
             W.knows result.now config (moments config turns) }
     {
         &self.filters.witness
+    }
+
+    /// The event's reporting mode after the last turn: the one that was set last, or else the configured one.
+    pub fn mode(&self, event: EventIndex) -> Mode
+        requires { event.0 < length self.now.filters.windows }
+        ensures { (config : Parts) (turns : List Turn) → StandsWatched B.held W.knows config turns self.now →
+            result ≡ mode_at config event.0 (moments config turns) }
+    {
+        self.filters.gate.mode(event)
+    }
+
+    /// The state after the last turn: the one that was changed to last, or else the configured one.
+    pub fn state(&self) -> u8
+        ensures { (config : Parts) (turns : List Turn) → StandsWatched B.held W.knows config turns self.now →
+            result ≡ state_at config (moments config turns) }
+    {
+        self.filters.gate.state()
     }
 
     /// The event memory after the last turn, once the chain has no more to take.

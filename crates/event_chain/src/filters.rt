@@ -121,8 +121,8 @@ impl<B: Parcel, W: Witness> Filters<B, W> {
                 };
                 self.take(tick, item, back, out);
             }
-            Act::State(state) => self.gate.state(*state),
-            Act::SetMode { event, mode } => self.gate.mode(*event, *mode),
+            Act::State(state) => self.gate.set_state(*state),
+            Act::SetMode { event, mode } => self.gate.set_mode(*event, *mode),
         }
     }
 

@@ -3,7 +3,7 @@
 ghost use Rattle.std.specs.Prelude.{◌≡◌, ◌<◌, ℕ, List, [], ◌∷◌, length, map, IfOk};
 ghost use Rattle.std.specs.List.{All};
 ghost use Rattle.ids_config.specs.Parts.{Parts};
-ghost use Rattle.chain_spec.specs.{coming, qualified_fate, qualified, sampled_at, bypassing_at, Item, Moment, comes, state_is, mode_is};
+ghost use Rattle.chain_spec.specs.{coming, qualified_fate, qualified, sampled_at, bypassing_at, mode_at, state_at, Item, Moment, comes, state_is, mode_is};
 ghost use Rattle.filter_gate.specs.Gate.{fresh_row, row_at, verdict_on, gate_asked, gate_with_mode};
 ghost use Rattle.filter_gate.specs.Stands.{Stands, let_through, let_by, fate_by, sampled_fate};
 
@@ -17,7 +17,7 @@ use std::marker::Model;
 /// The filters of reporting mode, block state, and forward every nth, for each event.
 #[derive(Debug, Drop)]
 pub struct GateState {
-    state: u64,
+    state: u8,
     rows: Vec<Row>,
 }
 
@@ -40,7 +40,7 @@ impl GateState {
     {
         let parts = config.parts();
         Ok(GateState {
-            state: parts.state,
+            state: parts.state as u8,
             rows: fresh_rows(alloc, &parts.events)?,
         })
     }
@@ -70,23 +70,40 @@ impl GateState {
         self.ask(event)
     }
 
+    /// The event's reporting mode: the one that was set last, or else the configured one.
+    pub fn mode(&self, event: EventIndex) -> Mode
+        requires { event.0 < length self.now.rows }
+        ensures { (config : Parts) (before : List Moment)
+            → Stands config before self.now → result ≡ mode_at config event.0 before }
+    {
+        self.rows[event.0 as usize].mode()
+    }
+
+    /// The state: the one that was changed to last, or else the configured one.
+    pub fn state(&self) -> u8
+        ensures { (config : Parts) (before : List Moment)
+            → Stands config before self.now → result ≡ state_at config before }
+    {
+        self.state
+    }
+
     /// The state becomes this one.
-    pub fn state(&mut self, state: u8)
+    pub fn set_state(&mut self, state: u8)
         ensures stands { (config : Parts) (before : List Moment)
             → Stands config before self.old → Stands config (state_is state ∷ before) self.new }
         ensures events { length self.new.rows ≡ length self.old.rows }
     {
-        self.state = u64::from(state);
+        self.state = state;
     }
 
     /// The event's reporting mode becomes this one.
-    pub fn mode(&mut self, event: EventIndex, mode: Mode)
+    pub fn set_mode(&mut self, event: EventIndex, mode: Mode)
         requires { event.0 < length self.old.rows }
         ensures stands { (config : Parts) (before : List Moment)
             → Stands config before self.old → Stands config (mode_is event.0 mode ∷ before) self.new }
         ensures events { length self.new.rows ≡ length self.old.rows }
     {
-        self.set_mode(event, mode);
+        self.put_mode(event, mode);
     }
 
     #[inline(always)]
@@ -95,10 +112,10 @@ impl GateState {
         ensures verdict { result ≡ verdict_on self.old.state (row_at self.old event.0) }
         ensures gate { self.new ≡ gate_asked event.0 self.old }
     {
-        self.rows[event.0 as usize].ask(self.state)
+        self.rows[event.0 as usize].ask(u64::from(self.state))
     }
 
-    fn set_mode(&mut self, event: EventIndex, mode: Mode)
+    fn put_mode(&mut self, event: EventIndex, mode: Mode)
         requires { event.0 < length self.old.rows }
         ensures { self.new ≡ gate_with_mode event.0 mode self.old }
     {

@@ -78,6 +78,13 @@ impl Row {
         }
     }
 
+    /// The reporting mode.
+    pub fn mode(&self) -> Mode
+        ensures { result ≡ self.now.mode }
+    {
+        self.mode
+    }
+
     /// Sets the reporting mode.
     pub fn set_mode(&mut self, mode: Mode)
         ensures { self.new ≡ with_mode mode self.old }

@@ -11,10 +11,10 @@ returns-in-Report-clause-behind g c config start moments behind =
 pub returns-in-State-clause-behind : goal.returns-in-State-clause-behind
 returns-in-State-clause-behind g c config start moments behind =
     let known = g.met.W.Witness.silent c.args.self.now.witness config moments (state_is c.in-State.state) behind.witness refl in
-    search (rules, known, c.state.ensures.stands config moments behind.gate)
+    search (rules, known, c.set_state.ensures.stands config moments behind.gate)
 
 pub returns-in-SetMode-clause-behind : goal.returns-in-SetMode-clause-behind
 returns-in-SetMode-clause-behind g c config start moments behind =
     let known = g.met.W.Witness.silent c.args.self.now.witness config moments (mode_is c.in-SetMode.event.0 c.in-SetMode.mode)
     behind.witness refl in
-    search (rules, known, c.mode.ensures.stands config moments behind.gate)
+    search (rules, known, c.set_mode.ensures.stands config moments behind.gate)
