@@ -1,11 +1,12 @@
 -- What a close leaves.
-use Rattle.main_function.proofs.Names.{◌≡◌, ℕ, suc, Option, List, [], ◌∷◌, ◌++◌, length, map, DeskMemo, ap, refl, sym, ◌∙◌, sum_by, arith, length-map, sum_by-cons, Turn, Parts, Buffer, AllOf, givers_of, AreAllBack, AreAllSwept, IsAllTaken, EachSettled, IsDeskOf, desk_memo, to_give_back, PassMemo, lost_events, missing_in, Desk, Shared, all_calls, all_accepted, settled_classes, Closed, OnlyWelcomes, all_back, came, plain_item, IsManagerOf, Stands, Turned, Manager, get_elem?, some}
+use Rattle.main_function.proofs.Names.{◌≡◌, ℕ, suc, Option, List, [], ◌∷◌, ◌++◌, length, map, DeskMemo, ap, refl, sym, ◌∙◌, sum_by, arith, sum_by-cons, Turn, Parts, Buffer, AllOf, givers_of, AreAllBack, AreAllSwept, IsAllTaken, EachSettled, IsDeskOf, desk_memo, to_give_back, PassMemo, lost_events, missing_in, Desk, Shared, all_calls, all_accepted, settled_classes, Closed, OnlyWelcomes, all_back, came, IsManagerOf, Stands, Turned, Manager, get_elem?, some}
 use Rattle.atomic_table.proofs.Lists.{at_map}
 use Rattle.report_queue.proofs.ClosingLemmas.{at_map_back}
 use Rattle.permit_ring.specs.{ended, marks_back}
 use Rattle.buffer_classes.proofs.{all_then}
 use Rattle.buffer_classes.specs.{ClassMemo}
 use Rattle.law_closing.specs.{ClosedDesk, IsMadeFor}
+use Rattle.main_function.proofs.ReportLemmas.{sums_of}
 use Rattle.main_function.proofs.WelcomeLemmas.{only_back}
 
 -- a sum over passes that came back
@@ -74,6 +75,6 @@ module _ {C L : Type 0} (stands : C → Parts → List Turn → Type 0) (noted :
         tied = mine.desk_is.tied;
         settled = settled all;
         classes_released = all_then givers turned.buffers.gave (λ i old mid new a b. b.released_is ∙ ap (λ (k : ClassMemo). k.released) a.memo_is);
-        sums = λ config turns is. grind (arith, mine.totals_are, shows config turns is, length-map (desk_memo new.desk).notes plain_item);
+        sums = λ config turns is. sums_of mine (turned.stands_then config turns (stands_back config turns is));
         counts = grind (arith, mine.totals_are, accepted, swept all, its_back, events, contexts);
       }

@@ -29,4 +29,4 @@ module _ {C L : Type 0} {m : Manager C L} where
 
   pub stands_without : {stands : C → Parts → List Turn → Type 0} {config : Parts} {turns : List Turn} → Stands stands config m turns
       → Stands stands config (without_log m) turns
-  stands_without is = record { chain_stands = is.chain_stands; reports_show = is.reports_show; tick_is = is.tick_is; count_is = is.count_is }
+  stands_without is = record { chain_stands = is.chain_stands; reports_show = is.reports_show; tick_is = is.tick_is; count_is = is.count_is; sent_are = is.sent_are }

@@ -1,5 +1,5 @@
 -- The names of other crates and of this crate's specs that more than one of its proofs stands on.
-pub use Rattle.std.proofs.Common.{◌≡◌, ℕ, suc, ◌+◌, ◌<◌, Option, List, [], ◌∷◌, ◌++◌, length, map, refl, sym, subst, ap, ◌∙◌, sum, sum_by, arith, ◌*◌, ◌≤◌, IfSome, rules, max, None, get_or, take, ◌^◌, Ok, Err, slice_set, ◌-◌, vec_capacity}
+pub use Rattle.std.proofs.Common.{◌≡◌, ℕ, suc, ◌+◌, ◌<◌, Option, List, [], ◌∷◌, ◌++◌, length, map, refl, sym, subst, ap, ◌∙◌, sum, sum_by, arith, ◌*◌, ◌≤◌, IfSome, rules, max, None, get_or, take, ◌^◌, Ok, Err, slice_set, ◌-◌, vec_capacity, min, reverse}
 pub use Rattle.std.proofs.lemmas.Grind.{common_steps, flat_map-append}
 pub use Rattle.std.proofs.lemmas.List.{length-map, length-replicate, map-append, take_more, append-nil, append_assoc, length-take-le, set-append_left, take_all, map_push, nil_from_length}
 pub use Rattle.std.proofs.lemmas.List.Elements.{All-from_recursion, All-weaker, recursion_from_All, All-nil, All-push}
@@ -21,8 +21,9 @@ pub use Rattle.report_api.specs.declared.pass.Pass.{Pass}
 pub use Rattle.report_api.specs.declared.shared.Shared.{Shared}
 pub use Rattle.report_api.specs.declared.terms.ReportTerms.{ReportTerms}
 pub use Rattle.report_queue.specs.{AreAllBack, AreAllSwept, IsAllTaken, ReapTells, queue_positions, item_note, reaps_all, welcomes}
-pub use Rattle.main_function.specs.{Closed, IsQuick, OnlyMoves, OnlyWelcomes, all_back, ShowsHistory, AreTotals, IsManagerOf, Stands, Turned, IsHeld, held, items_of, MakesTurn, Took, item_of, largest_size, sweeps_for, IsBuilt, IsNewManager}
+pub use Rattle.main_function.specs.{Closed, IsQuick, OnlyMoves, OnlyWelcomes, all_back, ShowsHistory, AreTotals, AreSentBy, held_of, IsManagerOf, Stands, Turned, IsHeld, held, items_of, MakesTurn, Took, item_of, largest_size, sweeps_for, IsBuilt, IsNewManager}
 pub use Rattle.main_function.specs.declared.manager.Manager.{Manager}
+pub use Rattle.main_function.specs.declared.rest.Sent.{Sent}
 pub use Rattle.main_function.specs.declared.rest.Totals.{Totals}
 pub use Rattle.buffer_classes.specs.Classes.{RiseFrom}
 pub use Rattle.ids_types.specs.declared.class_spec.ClassSpec.{ClassSpec}

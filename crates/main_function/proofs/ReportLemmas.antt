@@ -1,8 +1,9 @@
 -- What a turn adds to the desk, and to what it shows of a history.
-use Rattle.main_function.proofs.Names.{◌≡◌, ℕ, ◌+◌, ◌≤◌, List, [], ◌∷◌, ◌++◌, length, map, arith, common_steps, flat_map-append, length-map, map-append, sum_by_push, entry_by, Entry, Turn, Buffer, DeskMemo, MakesTurn, ShowsHistory, held, item_of, items_of, sweeps_for, AreTotals, plain_item, Totals, end_steps, gave_of, only_reaps}
+use Rattle.main_function.proofs.Names.{◌≡◌, ℕ, ◌+◌, ◌≤◌, List, [], ◌∷◌, ◌++◌, length, map, arith, common_steps, flat_map-append, length-map, map-append, sum_by_push, entry_by, Entry, Turn, Parts, Buffer, DeskMemo, desk_memo, MakesTurn, Shared, IsManagerOf, Stands, Manager, ShowsHistory, held, item_of, items_of, sweeps_for, AreTotals, plain_item, Totals, end_steps, gave_of, only_reaps}
 use Rattle.std.proofs.Common.{eq-zero-or-pos}
 use Rattle.std.proofs.lemmas.Bool.Decides.{nat_tests}
 use mathlib.Core.List.{map-map}
+use Rattle.main_function.specs.{AreSumsOf}
 use Rattle.history_spec.specs.Fronts.{and_front}
 use Rattle.history_spec.proofs.FrontLemmas.{fronts_more}
 
@@ -54,3 +55,8 @@ module _ (positions : ℕ) (old new : DeskMemo) (turn : Turn) (taken : List (Ent
   -- and what was offered
   pub offered_more : old.offered ≡ positions + length old.notes → new.offered ≡ positions + length new.notes
   offered_more offered = let adds = turn_adds in grind (arith, common_steps, offered, adds, length-map taken item_of)
+
+-- so the totals of a manager are the sums over the turns that it stands for
+pub sums_of : {C L : Type 0} {stands : C → Parts → List Turn → Type 0} {events : C → ℕ} {kept : C → List Buffer} {shared : Shared} {config : Parts}
+    {turns : List Turn} {m : Manager C L} → IsManagerOf events kept shared m → Stands stands config m turns → AreSumsOf turns m.totals
+sums_of {m = m} mine is = grind (arith, mine.totals_are, is.reports_show, length-map (desk_memo m.desk).notes plain_item)

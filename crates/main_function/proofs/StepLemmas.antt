@@ -1,5 +1,5 @@
 -- What a manager between two calls can do, and what it is after a turn.
-use Rattle.main_function.proofs.Names.{◌≡◌, ℕ, ◌≤◌, List, [], ◌++◌, ◌*◌, length, IfSome, subst, sym, arith, rules, All, common_steps, All-weaker, recursion_from_All, Entry, AllAdmitted, HandsBack, IsShort, all_parcels, FitsAct, FitsLargest, FitsTurn, parcel_of, most_sent, Buffer, AreBuffersIn, queue_positions, DeskMemo, sizes_of, term_sizes, Shared, IsHeld, held, IsManagerOf, Took, Manager}
+use Rattle.main_function.proofs.Names.{◌≡◌, ℕ, ◌≤◌, List, [], ◌++◌, length, IfSome, subst, sym, arith, All, common_steps, All-weaker, recursion_from_All, Entry, AllAdmitted, HandsBack, IsShort, all_parcels, FitsAct, FitsLargest, FitsTurn, parcel_of, most_sent, Buffer, AreBuffersIn, queue_positions, DeskMemo, sizes_of, term_sizes, Shared, IsHeld, held, IsManagerOf, Took, Manager}
 use Rattle.std.specs.List.Sorted.{IsPermutation}
 use Rattle.std.proofs.lemmas.Bool.Decides.{nat_tests}
 use Rattle.main_function.proofs.FittingLemmas.{held_in, of_items}

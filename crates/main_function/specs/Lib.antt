@@ -15,7 +15,7 @@ pub use Rattle.main_function.specs.Holding.{IsHeldBy, IsReleasedBy}
 pub use Rattle.main_function.specs.Making.{IsBuilt, IsNewManager}
 pub use Rattle.main_function.specs.Reports.{held, ShowsHistory, sweeps_for, MakesTurn}
 pub use Rattle.main_function.specs.Resting.{memos_of, IsHeldAt, AreHeld, GoesOnFrom, HaveGoneOn, ReleasedSeats, OnlyMovesGiver, OnlyMoves, Rested, RestLeaves}
-pub use Rattle.main_function.specs.Standing.{AreTotals, AreAllPasses, Stands, IsManagerOf, largest_size, turns_of, last_of, rests_of, without_log, IsManager, HasPasses, KeepsRoom, StaysSo}
+pub use Rattle.main_function.specs.Standing.{AreTotals, held_of, AreSentBy, AreAllPasses, Stands, IsManagerOf, largest_size, turns_of, last_of, rests_of, without_log, IsManager, HasPasses, KeepsRoom, StaysSo}
 pub use Rattle.main_function.specs.Taking.{item_of, items_of, Took}
 pub use Rattle.main_function.specs.Turning.{IsQuick, Turned, most_class_steps, most_steps, IsSmallHead, TurnFails, TurnLeaves}
 pub use Rattle.main_function.specs.Rests.{RestsTold, rests_told, with_rest, calls_by, HasRestRoom, KeepsRestRoom}

@@ -1,5 +1,5 @@
 -- A manager that has just been made.
-use Rattle.std.specs.Prelude.{◌≡◌, ℕ, ◌+◌, ◌*◌, ◌≤◌, List, [], vec_capacity}
+use Rattle.std.specs.Prelude.{◌≡◌, ℕ, ◌+◌, ◌≤◌, List, [], vec_capacity}
 use Rattle.main_function.specs.Names.{IsMadeFor, Shared, Parts, Buffer, spec_sizes, Desk, Pass, Turn, desk_memo, IsNewMaking}
 use Rattle.main_function.specs.Rests.{no_rests}
 use Rattle.main_function.specs.Standing.{AreAllPasses, HasRoomFor, IsManagerOf, Stands, largest_size, rests_of}
@@ -18,6 +18,7 @@ module _ {C L : Type 0} where
     pub out_room : HasRoomFor largest positions events m.out
     pub no_rests : rests_of m ≡ no_rests
     pub totals_are : m.totals ≡ record { entries = 0; lost_events = 0; lost_contexts = 0 }
+    pub sent_are : m.sent ≡ record { messages = 0; limited = 0 }
     pub head_is : m.head ≡ record { tick = 0; lost_events = 0; lost_contexts = 0; limited = 0 }
     pub taken_is : m.taken ≡ 0
     pub turns_are : m.turns ≡ 0

@@ -1,16 +1,19 @@
 -- For which turns a manager stands, and what holds of it between two calls.
-use Rattle.std.specs.Prelude.{◌≡◌, ℕ, ◌+◌, ◌*◌, ◌≤◌, ◌^◌, List, [], fold, length, max, sum, vec_capacity}
+use Rattle.std.specs.Prelude.{◌≡◌, ℕ, ◌+◌, ◌-◌, ◌≤◌, ◌^◌, List, [], fold, length, max, min, reverse, sum, vec_capacity}
 use mathlib.Core.Option.{some}
 use lib.ListN.{get_elem?}
 use Rattle.std.specs.List.{All}
 use Rattle.main_function.specs.Names.{Output, room_of, Shared, Parts, queue_positions, last_tick, most_sent, Pass, Turn, DeskMemo, IsDeskOf, desk_memo, to_give_back, IsPassOf, pass_memo, sizes_of}
 use Rattle.permit_ring.specs.Hands.{AllAdmitted}
 use Rattle.buffer_classes.specs.Buffers.{Buffer}
+use Rattle.chain_spec.specs.Chain.{held_count}
+use Rattle.filter_chain.specs.History.{count_of}
 use Rattle.filter_chain.specs.declared.log.Unlogged.{Unlogged}
 use Rattle.main_function.specs.Buffers.{IsHeld}
 use Rattle.main_function.specs.Reports.{ShowsHistory}
 use Rattle.main_function.specs.Rests.{RestsTold, rests_told}
 use Rattle.main_function.specs.declared.manager.Manager.{Manager}
+use Rattle.main_function.specs.declared.rest.Sent.{Sent}
 use Rattle.main_function.specs.declared.rest.Totals.{Totals}
 
 -- the totals are those of what was taken and swept
@@ -18,6 +21,15 @@ pub record AreTotals (desk : DeskMemo) (totals : Totals) : Type 0 where
   pub entries_are : totals.entries ≡ length desk.notes
   pub lost_events_are : totals.lost_events ≡ sum desk.swept0
   pub lost_contexts_are : totals.lost_contexts ≡ sum desk.swept1
+
+-- how many qualified events the limits hold back in these turns, but for those of the internal event that tells of them
+abbrev pub held_of : Parts → List Turn → ℕ
+held_of config turns = held_count config (reverse turns)
+
+-- how many messages these turns send, and how many events the limits hold back in them, each up to 2 ^ 64 - 1
+pub record AreSentBy (config : Parts) (turns : List Turn) (sent : Sent) : Type 0 where
+  pub messages_are : sent.messages ≡ min (count_of config turns) (2 ^ 64 - 1)
+  pub limited_are : sent.limited ≡ min (held_of config turns) (2 ^ 64 - 1)
 
 -- the largest of some sizes, 0 where there is none
 abbrev pub largest_size : List ℕ → ℕ
@@ -56,6 +68,7 @@ module _ {C L : Type 0} where
     out = m.out;
     rests = m.rests;
     totals = m.totals;
+    sent = m.sent;
     head = m.head;
     taken = m.taken;
     turns = m.turns;
@@ -69,6 +82,7 @@ module _ {C L : Type 0} where
     pub reports_show : ShowsHistory m.positions (desk_memo m.desk) turns
     pub tick_is : m.head.tick ≡ last_tick turns
     pub count_is : m.turns ≡ length turns
+    pub sent_are : AreSentBy config turns m.sent
 
   -- a turn of all positions, with the largest context data, finds room
   pub record IsRoomy (events : C → ℕ) (m : Manager C L) : Type 0 where

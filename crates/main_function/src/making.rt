@@ -5,7 +5,7 @@ ghost use Rattle.buffer_classes.specs.Making.{spec_sizes};
 ghost use Rattle.main_function.specs.{IsBuilt, IsNewManager, largest_size};
 
 use crate::manager::Manager;
-use crate::rest::{RestLog, Totals};
+use crate::rest::{RestLog, Sent, Totals};
 use filter_chain::{Log, ParcelChain, most_sent};
 use ids_config::Config;
 use ids_types::{NoMemory, TurnHead, TurnOut};
@@ -59,6 +59,10 @@ fn build<C: Drop, L: Drop>(
             entries: 0,
             lost_events: 0,
             lost_contexts: 0,
+        },
+        sent: Sent {
+            messages: 0,
+            limited: 0,
         },
         head: TurnHead {
             tick: 0,

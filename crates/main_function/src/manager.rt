@@ -1,16 +1,16 @@
 //! The manager.
-ghost use Rattle.std.specs.Prelude.{◌≡◌, ◌+◌, ◌≤◌, ◌<◌, ◌^◌, [], List, length, map, reverse, vec_capacity, IfOk, IsOk, OnErr, OnOk};
+ghost use Rattle.std.specs.Prelude.{◌≡◌, ◌+◌, ◌-◌, ◌≤◌, ◌<◌, ◌^◌, [], List, length, map, min, reverse, vec_capacity, IfOk, IsOk, OnErr, OnOk};
 ghost use Rattle.ids_types.specs.{room_of, Turn};
 ghost use Rattle.ids_config.specs.Parts.{Parts};
-ghost use Rattle.filter_chain.specs.History.{rows_of};
+ghost use Rattle.filter_chain.specs.History.{count_of, rows_of};
 ghost use Rattle.buffer_classes.specs.Givers.{givers_of, late_of};
 ghost use Rattle.buffer_classes.specs.{AllOf};
-ghost use Rattle.main_function.specs.{AreCountsOf, CloseLeaves, Closed, AreAllPasses, HasPasses, IsManager, IsManagerOf, Stands, StaysSo, last_of, rests_of, turns_of, without_log, calls_by, rests_told, with_rest, HasRestRoom, KeepsRestRoom, IsQuick, TurnFails, TurnLeaves, Turned, Rested, RestLeaves, memos_of};
+ghost use Rattle.main_function.specs.{AreCountsOf, AreSumsOf, held_of, CloseLeaves, Closed, AreAllPasses, HasPasses, IsManager, IsManagerOf, Stands, StaysSo, last_of, rests_of, turns_of, without_log, calls_by, rests_told, with_rest, HasRestRoom, KeepsRestRoom, IsQuick, TurnFails, TurnLeaves, Turned, Rested, RestLeaves, memos_of};
 ghost use Rattle.report_queue.specs.{AreAllBack, AreAllSwept, IsAllTaken};
 ghost use Rattle.report_api.specs.{EachSettled, desk_memo, pass_memo};
 
 use crate::closing::welcome_all;
-use crate::rest::{HasPass, RestLog, Totals, TurnFault};
+use crate::rest::{HasPass, RestLog, Sent, Totals, TurnFault};
 use crate::resting::{hold_all, release_all};
 use crate::taking::take_ready;
 use event_memory::Memory;
@@ -32,6 +32,7 @@ pub struct Manager<C, L = Unlogged> {
     pub(crate) out: TurnOut,
     pub(crate) rests: RestLog,
     pub(crate) totals: Totals,
+    pub(crate) sent: Sent,
     // The head of the last turn, all 0 before the first, and how many entries it had.
     pub(crate) head: TurnHead,
     pub(crate) taken: u64,
@@ -150,6 +151,39 @@ impl<C: ParcelChain<CtxBuf>, L: Log<CtxBuf>> Manager<C, L> {
         Ok((&self.out, totals))
     }
 
+    /// What all turns so far took and lost.
+    #[tactic(auto, using(crate::proofs::ReportLemmas::sums_of))]
+    pub fn totals(&self) -> Totals
+        requires { IsManager C.events C.kept self.now }
+        ensures { (config : Parts) (turns : List Turn) → Stands C.stands config self.now turns → AreSumsOf turns result }
+    {
+        self.totals
+    }
+
+    /// How many messages all turns so far sent, counted up to 2^64 - 1.
+    pub fn messages(&self) -> u64
+        ensures { (config : Parts) (turns : List Turn) →
+            Stands C.stands config self.now turns → result ≡ min (count_of config turns) (2 ^ 64 - 1) }
+    {
+        self.sent.messages
+    }
+
+    /// How many qualified events the limits held back in all turns so far, counted up to 2^64 - 1. Those of the internal
+    /// event that tells of them do not count.
+    pub fn limited(&self) -> u64
+        ensures { (config : Parts) (turns : List Turn) →
+            Stands C.stands config self.now turns → result ≡ min (held_of config turns) (2 ^ 64 - 1) }
+    {
+        self.sent.limited
+    }
+
+    /// The chain, after the last turn.
+    pub fn chain(&self) -> &C
+        ensures { result.now ≡ self.now.chain }
+    {
+        &self.chain
+    }
+
     /// The head of the last turn, all 0 before the first.
     pub fn head(&self) -> TurnHead
         ensures { result ≡ self.now.head }
@@ -192,6 +226,7 @@ impl<C: ParcelChain<CtxBuf>, L: Log<CtxBuf>> Manager<C, L> {
             out: self.out,
             rests: self.rests,
             totals: self.totals,
+            sent: self.sent,
             head: self.head,
             taken: self.taken,
             turns: self.turns,
@@ -324,6 +359,8 @@ impl<C: ParcelChain<CtxBuf>, L: Log<CtxBuf>> Manager<C, L> {
         self.log.note(&head, &self.items);
         self.chain
             .judge(&head, &mut self.items, &mut self.back, &mut self.out);
+        let held = self.chain.limited();
+        self.sent = self.sent.with_turn(self.out.messages(), held);
         self.desk.give_back(shared, &mut self.back);
         self.head = head;
         self.taken = taken;

@@ -1,5 +1,5 @@
 //! What a turn refuses, what rests record, and what closing tells.
-ghost use Rattle.std.specs.Prelude.{◌≡◌, ◌+◌, ◌≤◌, ◌^◌, ⊤, length, vec_len, vec_capacity, IsOk, OnErr, OnOk};
+ghost use Rattle.std.specs.Prelude.{◌≡◌, ◌+◌, ◌-◌, ◌≤◌, ◌^◌, ⊤, min, length, vec_len, vec_capacity, IsOk, OnErr, OnOk};
 ghost use Rattle.report_api.specs.{IsDeskOf, IsPassOf, IsNextPass};
 ghost use Rattle.main_function.specs.Holding.{IsHeldBy, IsReleasedBy};
 ghost use Rattle.report_api.specs.declared.pass.Pass.{Pass as PassValue};
@@ -99,6 +99,26 @@ impl Totals {
             entries: self.entries + entries,
             lost_events: self.lost_events + lost_events,
             lost_contexts: self.lost_contexts + lost_contexts,
+        }
+    }
+}
+
+/// What all turns together sent, and what the limits held back in them, each counted up to 2^64 - 1.
+#[derive(Clone, Copy, Debug)]
+pub(crate) struct Sent {
+    pub(crate) messages: u64,
+    pub(crate) limited: u64,
+}
+
+impl Sent {
+    /// With what was sent and held back in one turn more.
+    pub(crate) fn with_turn(&self, messages: u32, limited: u64) -> Sent
+        ensures messages { result.messages ≡ min (self.now.messages + messages) (2 ^ 64 - 1) }
+        ensures limited { result.limited ≡ min (self.now.limited + limited) (2 ^ 64 - 1) }
+    {
+        Sent {
+            messages: self.messages.saturating_add(u64::from(messages)),
+            limited: self.limited.saturating_add(limited),
         }
     }
 }

@@ -1,10 +1,10 @@
-use Rattle.main_function.proofs.Names.{AllOf, GaveBack, givers_of, rules, refl, sym, ap, arith, common_steps, TurnHead, turn_by, DeskMemo, desk_memo, MakesTurn, held, item_of, items_of, length-map, ◌∙◌, gave_of, only_reaps}
+use Rattle.main_function.proofs.Names.{List, Turn, Parts, Stands, AllOf, GaveBack, givers_of, rules, refl, ap, arith, common_steps, TurnHead, turn_by, DeskMemo, desk_memo, MakesTurn, held, item_of, items_of, length-map, ◌∙◌, gave_of, only_reaps}
 use Rattle.ids_types.specs.{entry_by}
 use Rattle.report_queue.proofs.ClosingLemmas.{taken_on}
 use Rattle.main_function.proofs.QuickLemmas.{turn_is_quick}
 use Rattle.main_function.proofs.ReportLemmas.{offered_more, totals_more, turn_adds}
 use Rattle.main_function.proofs.StepLemmas.{can_take, come_back, has_sent_room, kept_fit, kept_short, taken_fit}
-use Rattle.main_function.proofs.TurnedLemmas.{last_within, stands_more}
+use Rattle.main_function.proofs.TurnedLemmas.{last_within, sent_more, stands_more}
 use Rattle.main_function.proofs.manager.Manager.step.Goals as goal
 
 pub judge-requires : goal.judge-requires
@@ -51,6 +51,8 @@ returns g c =
     let gave : AllOf (GaveBack c.judge.new.back.items) (givers_of c.args.self.now.desk.givers) (givers_of c.give_back.new.self.givers) =
     search (rules, c.give_back.ensures.gave, c.take_ready.ensures.same, c.sweep-lost_events.ensures.same) in
     let only = only_reaps (items_of taken) (desk_memo c.sweep-lost_events.new.self) in
+    let sends = λ (config : Parts) (turns : List Turn) (is : Stands g.C.Chain.stands config c.args.self.now turns).
+    c.judge.ensures.sends config turns is.chain_stands (rw (← is.tick_is) c.requires.later) in
     record {
       -- between two calls it is the one of this making again
       mine = record {
@@ -83,10 +85,13 @@ returns g c =
         back_is = (turn_adds _ _ _ _ _ makes).back_is;
         released_is = (turn_adds _ _ _ _ _ makes).released_is;
         buffers = record { back = c.judge.new.back.items; same = out.2; gave = gave };
-        stands_then = λ config turns is. stands_more g.C.Chain.stands config turns _ _ _ taken is
-            (c.judge.ensures.stands config turns is.chain_stands) c.requires.later makes mine.offered_is refl refl refl;
+        stands_then = λ config turns is.
+            let chain = c.judge.ensures.stands config turns is.chain_stands in
+            stands_more g.C.Chain.stands config turns _ _ _ taken is chain c.requires.later makes mine.offered_is refl refl refl
+            (sent_more config turns _ _ _ _ _ is.sent_are (sends config turns is).number
+            (c.limited-held.ensures.value config _ (chain (rw (← is.tick_is) c.requires.later))) (rw c.messages.ensures at c.with_turn-self.ensures.messages) c.with_turn-self.ensures.limited);
         limited_is = λ config turns is. c.limited.ensures.value config turns is.chain_stands;
-        sends = λ config turns is. search (rules, is.tick_is, c.requires.later, c.judge.ensures.sends config turns is.chain_stands);
+        sends = sends;
         keeps = record {
           items_are = c.judge.ensures.items_room ∙ c.take_ready.ensures.room;
           back_are = c.give_back.ensures.room ∙ c.judge.ensures.back_room;
