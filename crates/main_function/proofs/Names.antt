@@ -1,7 +1,7 @@
 -- The names of other crates and of this crate's specs that more than one of its proofs stands on.
 pub use Rattle.std.proofs.Common.{◌≡◌, ℕ, suc, ◌+◌, ◌<◌, Option, List, [], ◌∷◌, ◌++◌, length, map, refl, sym, subst, ap, ◌∙◌, sum, sum_by, arith, ◌*◌, ◌≤◌, IfSome, rules, max, None, get_or, take, ◌^◌, Ok, Err, slice_set, ◌-◌, vec_capacity, min, reverse}
 pub use Rattle.std.proofs.lemmas.Grind.{common_steps, flat_map-append}
-pub use Rattle.std.proofs.lemmas.List.{length-map, length-replicate, map-append, take_more, append-nil, append_assoc, length-take-le, set-append_left, take_all, map_push, nil_from_length}
+pub use Rattle.std.proofs.lemmas.List.{length-map, length-replicate, map-append, take_more, append-nil, append_assoc, length-take-le, set-append_left, take_all, map_push, nil_from_length, append_cancel_left}
 pub use Rattle.std.proofs.lemmas.List.Elements.{All-from_recursion, All-weaker, recursion_from_All, All-nil, All-push}
 pub use Rattle.std.proofs.lemmas.List.Sums.{sum_by-cons, sum_by_push, fold_push}
 pub use Rattle.std.specs.List.{All, AllByRecursion, fold}
@@ -26,6 +26,7 @@ pub use Rattle.main_function.specs.declared.manager.Manager.{Manager}
 pub use Rattle.main_function.specs.declared.rest.Sent.{Sent}
 pub use Rattle.main_function.specs.declared.rest.Totals.{Totals}
 pub use Rattle.buffer_classes.specs.Classes.{RiseFrom}
+pub use Rattle.buffer_classes.specs.declared.giver.Giver.{Giver}
 pub use Rattle.ids_types.specs.declared.class_spec.ClassSpec.{ClassSpec}
 pub use Rattle.permit_ring.proofs.{end_steps, gave_of, only_reaps, reaps_push}
 pub use lib.ListN.{get_elem?}

@@ -1,9 +1,10 @@
 -- For which turns a manager stands after one more.
-use Rattle.main_function.proofs.Names.{◌≡◌, ℕ, ◌+◌, ◌≤◌, ◌^◌, List, [], ◌∷◌, ◌++◌, length, sum, ap, arith, common_steps, sum_by_push, Entry, Turn, Parts, Buffer, desk_memo, MakesTurn, Stands, AreSentBy, Sent, held_of, reverse, ◌-◌, min, Manager}
+use Rattle.main_function.proofs.Names.{◌≡◌, ℕ, ◌+◌, ◌≤◌, ◌^◌, List, [], ◌∷◌, ◌++◌, length, sum, ap, sym, arith, common_steps, sum_by_push, Entry, Turn, Parts, Buffer, DeskMemo, desk_memo, MakesTurn, Stands, Turned, AreSentBy, Sent, held_of, item_of, items_of, plain_item, reverse, Giver, append_cancel_left, ◌-◌, min, ◌∙◌, Manager}
 use Rattle.std.proofs.lemmas.List.{reverse-append}
+use mathlib.Core.List.{map-map}
 use Rattle.chain_spec.proofs.GrowthLemmas.{held_counted}
 use Rattle.filter_chain.specs.History.{count_of, handed_of, last_tick}
-use Rattle.main_function.proofs.ReportLemmas.{shows_more}
+use Rattle.main_function.proofs.ReportLemmas.{shows_more, turn_adds}
 
 -- the last of numbers is at most as much as all of them
 pub last_within : (before all : List ℕ) (x : ℕ) → all ≡ before ++ x ∷ [] → sum all ≤ 2 ^ 45 → x ≤ 2 ^ 45
@@ -41,3 +42,13 @@ module _ {C L : Type 0} (stands : C → Parts → List Turn → Type 0) (config 
   stands_more old new turn taken is chain later makes offered positions last count sent =
       let shows = shows_more old.positions (desk_memo old.desk) (desk_memo new.desk) turn taken makes turns offered is.reports_show in
       grind (arith, common_steps, chain, is, later, shows, positions, last, count, sent)
+
+module _ {C L : Type 0} {stands : C → Parts → List Turn → Type 0} {noted : L → Turn → L → Type 0} {kept : C → List Buffer} {tick : ℕ}
+    {desk : DeskMemo} {givers : List Giver} {old new : Manager C L} where
+  -- what a turn leaves tells which turn was made
+  pub one_turn : (one other : Turned stands noted kept tick desk givers old new) → one.turn ≡ other.turn
+  one_turn one other =
+      let notes = λ (it : Turned stands noted kept tick desk givers old new). (turn_adds _ _ _ _ _ it.makes).notes_are in
+      let items : items_of one.taken ≡ items_of other.taken = append_cancel_left desk.notes _ _ (sym (notes one) ∙ notes other) in
+      let plain = λ (taken : List (Entry Buffer)). map-map plain_item item_of taken in
+      grind (arith, items, plain one.taken, plain other.taken, one.makes.entries_are, other.makes.entries_are, one.head_is, other.head_is)

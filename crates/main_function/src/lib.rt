@@ -7,12 +7,14 @@
 #![tactic(auto)]
 
 mod closing;
+mod laws;
 mod making;
 mod manager;
 mod rest;
 mod resting;
 mod taking;
 
+pub use laws::there_is_one_turn;
 pub use making::{Made, make};
 pub use manager::Manager;
 pub use rest::{HasPass, RestLog, Totals, TurnFault};
