@@ -1,16 +1,21 @@
 -- Lines that are in range and in order have no fault, each after the lines before it.
-use Rattle.journal.proofs.Names.{◌≡◌, ℕ, ◌+◌, ◌<◌, ◌≤◌, ◌++◌, ◌∷◌, List, [], length, map, get_or, refl, arith, true, Ok, flat_map, Turn, begun, flat_map-push, has_pair, Entry, Loss, Line, enters, loses, turn_told, Told}
+use Rattle.journal.proofs.Names.{◌≡◌, ℕ, ◌+◌, ◌<◌, ◌≤◌, ◌++◌, ◌∷◌, List, [], length, map, take, get_or, refl, append_assoc, length-set, arith, true, Ok, flat_map, Turn, begun, flat_map-push, has_pair, Entry, Loss, Line, enters, loses, turn_told, Told}
 use Rattle.std.proofs.Common.{◌↔◌, false}
+use Rattle.std.proofs.lemmas.Bool.{eq-eqb}
 use Rattle.std.proofs.lemmas.Bool.Decides.{nat_tests}
-use Rattle.std.proofs.lemmas.Grind.{common_steps}
-use Rattle.std.proofs.lemmas.List.{append-nil, length-append}
-use Rattle.std.specs.Prelude.{replicate}
+use Rattle.std.proofs.lemmas.Grind.{common_steps, flat_map-append}
+use Rattle.std.proofs.lemmas.List.{append-nil, length-append, take-append-drop}
+use Rattle.std.specs.Prelude.{drop, replicate}
 use Rattle.std.specs.List.{AllByRecursion}
+use Rattle.history_spec.specs.{KeepUpFrom, RiseFrom, calls_of}
 use Rattle.ids_config.specs.Parts.{Parts}
 use Rattle.ids_types.proofs.HistoryLemmas.{length_with_entry}
+use Rattle.ids_types.specs.{entries_of}
 use Rattle.text_spec.proofs.JournalFits.{all_in_ranges, calls_stay, has_pair-more, in_order, turns_few}
-use Rattle.text_spec.specs.{Past, start, next, fault_of, pair_of, is_in_ranges, Fits, Follows, journal_grammar, begins, lines_told, AreFaultless}
-use Rattle.journal.specs.Fitting.{IsInOrder}
+use Rattle.text_spec.proofs.TraceFacts.{all_append, all_split}
+use Rattle.text_spec.specs.{Past, start, next, fault_of, pair_of, is_in_ranges, Fits, Follows, IsHeld, journal_grammar, begins, lines_told, AreFaultless}
+use Rattle.journal.specs.Answers.{told}
+use Rattle.journal.specs.Fitting.{AreInRange, IsInOrder, IsTurnInRange}
 
 -- what the lines so far ask of a line
 abbrev Bears : Past → Line → Type 0
@@ -94,3 +99,56 @@ fits_in_order config told = (
     faultless = passes config start (lines_told told) refl is.ranges is.order (λ before behind last are. start_bears last) (turns_room start told.turns told.losses is.few);
   },
 )
+
+-- ---- turns by themselves
+
+module _ (config : Parts) where
+  -- the first of lines without a fault have none
+  faultless_front : (past : Past) (front rest : List Line) → AreFaultless (journal_grammar config) past (front ++ rest) → AreFaultless (journal_grammar config) past front
+  faultless_front past [] rest none = tt
+  faultless_front past (line ∷ front) rest none = (none.0, faultless_front (next past line) front rest none.1)
+
+  pub beginnings_fit : (turns : List Turn) (losses : List Loss) (k : ℕ) → Fits config (told turns losses) → Fits config (told (take k turns) [])
+  beginnings_fit turns losses k fits =
+      let front = flat_map turn_told (take k turns) in
+      let are = rw (take-append-drop k turns) at (flat_map-append turn_told (take k turns) (drop k turns)) in
+      record {
+        held = rw append-nil (all_split IsHeld front _ (rw (are, append_assoc) at fits.held)).0;
+        faultless = rw append-nil (faultless_front start front _ (rw (are, append_assoc) at fits.faultless));
+      }
+
+  -- entries are in range, and each caller's calls rise above those so far and go on rising; then come lines without a fault
+  entries_pass : (past : Past) (entries later : List (Entry (List ℕ))) (rest : List Line) → length past.calls ≡ 32 → past.told.losses ≡ []
+      → 0 < length past.told.turns → past.entries + length entries ≤ 1024 → AllByRecursion (λ line. is_in_ranges config line ≡ true) (map enters entries)
+      → ((caller : ℕ) → RiseFrom (get_or past.calls caller 0) (calls_of caller (entries ++ later)))
+      → ((now : Past) → length now.calls ≡ 32 → now.told.losses ≡ [] → now.tick ≡ past.tick → ((caller : ℕ) → RiseFrom (get_or now.calls caller 0) (calls_of caller later)) → AreFaultless (journal_grammar config) now rest)
+      → AreFaultless (journal_grammar config) past (map enters entries ++ rest)
+  entries_pass past [] later rest calls none some few ranges rise then = then past calls none refl rise
+  entries_pass past (entry ∷ entries) later rest calls none some few ranges rise then =
+      let within : entry.caller < length past.calls = grind (arith, ranges.0, calls) in
+      let least = (rw (eq-eqb entry.caller entry.caller refl) at (rise entry.caller)).0 in (
+        no_fault config past (enters entry) ranges.0 (some, omega (arith, few)) (none, least),
+        entries_pass (next past (enters entry)) entries later rest (calls_stay past (enters entry) calls) none
+            (omega (arith, length_with_entry past.told.turns entry, some)) (omega (arith, few)) ranges.1 (λ caller. grind (arith, common_steps, length-set, within, rise caller)) then,
+      )
+
+  turns_pass : (past : Past) (turns : List Turn) → length past.calls ≡ 32 → past.told.losses ≡ [] → AllByRecursion (IsTurnInRange config) turns
+      → KeepUpFrom past.tick (map (λ turn. turn.head.tick) turns) → ((caller : ℕ) → RiseFrom (get_or past.calls caller 0) (calls_of caller (entries_of turns)))
+      → AreFaultless (journal_grammar config) past (flat_map turn_told turns)
+  turns_pass past [] calls none each ticks rise = tt
+  turns_pass past (turn ∷ turns) calls none each ticks rise = (
+    no_fault config past (begins turn.head) each.0.ranges.0 tt (none, ticks.0),
+    entries_pass (next past (begins turn.head)) turn.entries (entries_of turns) (flat_map turn_told turns) calls none
+        (omega (arith, length-append past.told.turns (begun turn.head ∷ []))) (omega (arith, each.0.few)) each.0.ranges.1 rise
+        (λ now its_calls its_none its_tick its_rise. turns_pass now turns its_calls its_none each.1 (rw its_tick ticks.1) its_rise),
+  )
+
+  all_held : (turns : List Turn) → AllByRecursion (IsTurnInRange config) turns → AllByRecursion IsHeld (flat_map turn_told turns)
+  all_held [] each = tt
+  all_held (turn ∷ turns) each = all_append IsHeld (turn_told turn) (flat_map turn_told turns) each.0.held (all_held turns each.1)
+
+  pub turns_in_range_fit : (turns : List Turn) → AreInRange config turns → ((caller : ℕ) → RiseFrom 0 (calls_of caller (entries_of turns))) → Fits config (told turns [])
+  turns_in_range_fit turns are rise = record {
+    held = rw append-nil (all_held turns are.each);
+    faultless = rw append-nil (turns_pass start turns refl refl are.each are.ticks (λ caller. rw (none_before 32 caller 0) (rise caller)));
+  }

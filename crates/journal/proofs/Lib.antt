@@ -1,3 +1,4 @@
 pub mod FittingLemmas
+pub mod LengthLemmas
 pub mod Names
 pub mod PrintingLemmas

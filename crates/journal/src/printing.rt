@@ -2,15 +2,15 @@
 
 ghost use Rattle.std.specs.Prelude.{◌≡◌, ◌<◌, ◌++◌, ◌∷◌, [], map, length, decimal, codes, IfOk, OnOk};
 ghost use Rattle.std.specs.List.{flat_map, join_with_byte};
-ghost use Rattle.ids_types.specs.{plain_carried, plain_entry, turn_at};
+ghost use Rattle.ids_types.specs.{carried_by, entry_by, turn_at};
 ghost use Rattle.ids_types.specs.declared.entry.Act.TheVariants.{Report, State, SetMode};
 ghost use Rattle.text_spec.specs.{point, context_word, ended_line, begins, enters, loses, fields_of, turn_told, line_for, journal_text, Fits, IsJournal, stamp_text, space, line_feed, line_of};
 ghost use Rattle.ids_config.specs.Parts.{Parts};
 ghost use Rattle.journal.specs.Answers.{told};
-ghost use Rattle.journal.specs.Printing.{lines_text, pointed};
+ghost use Rattle.journal.specs.Printing.{lines_text, pointed, turn_text};
 
 use ids_types::{
-    Act, Carried, Entry, EventIndex, History, Loss, NoMemory, Numbers, Plain, Stamp, TurnHead,
+    Act, Carried, Entry, EventIndex, History, Loss, NoMemory, Numbers, Parcel, Stamp, TurnHead,
 };
 use std::alloc::Global;
 use text_spec::{push_field, push_hex, push_mode, push_number, push_stamp};
@@ -43,14 +43,31 @@ fn print_lines(alloc: Global, history: &History, losses: &[Loss]) -> Result<Vec<
 }
 
 /// Appends the lines of a turn.
+#[tactic(auto, using(crate::proofs::PrintingLemmas::pushes))]
 fn push_turn(out: &mut Vec<u8>, history: &History, turn: u64) -> Result<(), NoMemory>
     requires { turn < length history.now.turns }
-    ensures { OnOk result (out.new.items ≡
-        out.old.items ++ lines_text (turn_told (turn_at history.now.turns turn))) }
+    ensures { OnOk result (out.new.items ≡ out.old.items ++ turn_text (turn_at history.now.turns turn)) }
 {
     push_head(out, &history.head(turn))?;
     for i in 0..history.entries(turn) {
         push_entry(out, &history.entry(turn, i))?;
+    }
+    Ok(())
+}
+
+/// Appends the lines of a turn of these entries, whoever holds their contexts.
+/// Steps: the bytes of the lines. Memory: may answer want of memory. By: read off.
+pub fn push_items<B: Parcel>(
+    out: &mut Vec<u8>,
+    head: &TurnHead,
+    items: &[Entry<B>],
+) -> Result<(), NoMemory>
+    ensures { OnOk result (out.new.items ≡ out.old.items
+        ++ turn_text (record { head = head.now; entries = map (entry_by B.held) items.now })) }
+{
+    push_head(out, head)?;
+    for entry in items {
+        push_entry(out, entry)?;
     }
     Ok(())
 }
@@ -80,9 +97,9 @@ pub fn push_loss(out: &mut Vec<u8>, loss: &Loss) -> Result<(), NoMemory>
 
 /// Appends an entry as a line.
 /// Steps: the bytes of the line. Memory: may answer want of memory. By: read off.
-pub fn push_entry(out: &mut Vec<u8>, entry: &Entry<Plain<'_>>) -> Result<(), NoMemory>
+pub fn push_entry<B: Parcel>(out: &mut Vec<u8>, entry: &Entry<B>) -> Result<(), NoMemory>
     ensures { OnOk result (out.new.items ≡
-        out.old.items ++ ended_line (fields_of (enters (plain_entry entry.now)))) }
+        out.old.items ++ ended_line (fields_of (enters (entry_by B.held entry.now)))) }
 {
     push_fields(out, entry)?;
     Ok(out.push(b'\n')?)
@@ -90,8 +107,9 @@ pub fn push_entry(out: &mut Vec<u8>, entry: &Entry<Plain<'_>>) -> Result<(), NoM
 
 /// Appends the line of an entry, without its line feed.
 /// Steps: the bytes of the line. Memory: may answer want of memory. By: read off.
-pub fn push_fields(out: &mut Vec<u8>, entry: &Entry<Plain<'_>>) -> Result<(), NoMemory>
-    ensures { OnOk result (out.new.items ≡ out.old.items ++ line_for (enters (plain_entry entry.now))) }
+pub fn push_fields<B: Parcel>(out: &mut Vec<u8>, entry: &Entry<B>) -> Result<(), NoMemory>
+    ensures { OnOk result (out.new.items ≡
+        out.old.items ++ line_for (enters (entry_by B.held entry.now))) }
 {
     match &entry.act {
         Act::Report {
@@ -129,16 +147,16 @@ fn push_call(out: &mut Vec<u8>, letter: u8, caller: u8, call: u64) -> Result<(),
 }
 
 /// Appends ` EVENT COUNT STAMP CONTEXT`.
-fn push_report(
+fn push_report<B: Parcel>(
     out: &mut Vec<u8>,
     event: EventIndex,
     count: u16,
     stamp: Option<Stamp>,
-    context: &Carried<Plain<'_>>,
+    context: &Carried<B>,
 ) -> Result<(), NoMemory>
     ensures { OnOk result (out.new.items ≡ out.old.items ++ ((space ∷ decimal event.0)
         ++ ((space ∷ decimal count) ++ ((space ∷ stamp_text stamp)
-        ++ (space ∷ context_word (plain_carried context.now)))))) }
+        ++ (space ∷ context_word (carried_by B.held context.now)))))) }
 {
     push_field(out, u64::from(event.0))?;
     push_field(out, u64::from(count))?;
@@ -149,8 +167,9 @@ fn push_report(
 }
 
 /// Appends the word of a context.
-fn push_context(out: &mut Vec<u8>, context: &Carried<Plain<'_>>) -> Result<(), NoMemory>
-    ensures { OnOk result (out.new.items ≡ out.old.items ++ context_word (plain_carried context.now)) }
+fn push_context<B: Parcel>(out: &mut Vec<u8>, context: &Carried<B>) -> Result<(), NoMemory>
+    ensures { OnOk result (out.new.items ≡
+        out.old.items ++ context_word (carried_by B.held context.now)) }
 {
     match context {
         Carried::Absent => Ok(out.push(b'-')?),
@@ -163,7 +182,7 @@ fn push_context(out: &mut Vec<u8>, context: &Carried<Plain<'_>>) -> Result<(), N
             out.push(b':')?;
             push_number(out, *claim)?;
             out.push(b':')?;
-            push_hex(out, parcel.0)
+            push_hex(out, parcel.bytes())
         }
         Carried::Missing(numbers) => {
             out.push(b'!')?;
