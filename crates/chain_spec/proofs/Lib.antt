@@ -8,6 +8,7 @@ pub mod FilterLemmas
 pub mod GrowthLemmas
 pub mod LimitsLemmas
 pub mod Names
+pub mod QuietLemmas
 pub mod StageLemmas
 pub mod SumLemmas
 pub mod TallyLemmas

@@ -17,6 +17,7 @@ pub mod Messages
 pub mod Moments
 pub mod Openers
 pub mod Places
+pub mod Quiet
 pub mod Stages
 pub mod Storing
 pub mod Threshold

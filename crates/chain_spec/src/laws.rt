@@ -4,9 +4,10 @@ ghost use Rattle.std.specs.Prelude.{◌≡◌, ℕ, ◌+◌, ◌<◌, ◌≤◌,
 ghost use Rattle.ids_types.specs.Turns.{Turn};
 ghost use Rattle.ids_config.specs.Parts.{Parts, event_at, is_given};
 ghost use Rattle.ids_config.specs.declared.parts.Window.{Window as Limit};
-ghost use Rattle.chain_spec.specs.{account_of, after_ending, comers, number_of, AreConfigured, TellsWindows, events_in, limited_events_in, tick_of, every, closed_items, reaching, candidates, sent, held, messages, ends, handed, handed_on, held_count, message_count, qualified_of, ending_at, endings, is_qualified, is_limited, is_message, items_with, items_stored, gated, aggregated, thresholded, filtered_at, qualified_at, qualified, counted, arrivals, sampled, bypassing_at, Grows, GrowsAtEnd, Item, is_of, Candidate, window_at, those_in, passes_rate, passes_traffic, is_let_out, sent_of, weighed, Moment, moments, Stage, added, behind, stored, stored_of, EndBy, opened, members, in_newest, windows_of};
+ghost use Rattle.chain_spec.specs.{IsCausal, account_of, after_ending, comers, number_of, AreConfigured, TellsWindows, events_in, limited_events_in, tick_of, every, closed_items, reaching, candidates, sent, held, messages, ends, handed, handed_on, held_count, message_count, qualified_of, ending_at, endings, is_qualified, is_limited, is_message, items_with, items_stored, gated, aggregated, thresholded, filtered_at, qualified_at, qualified, counted, arrivals, sampled, bypassing_at, Grows, GrowsAtEnd, Item, is_of, Candidate, window_at, those_in, passes_rate, passes_traffic, is_let_out, sent_of, weighed, Moment, moments, Stage, added, behind, stored, stored_of, EndBy, opened, members, in_newest, windows_of};
 ghost use Rattle.chain_spec.specs.Openers.{openers, IsBeyond, AreApart};
 ghost use Rattle.chain_spec.specs.Places.{placed, HaveOwnPlaces};
+ghost use Rattle.chain_spec.specs.Quiet.{HaveIntervals, IsQuiet, TellTheSame};
 
 /// Two stages one after the other add what the second adds to the list of the first.
 #[tactic(auto, using(crate::proofs::StageLemmas::added_behind))]
@@ -193,4 +194,19 @@ pub fn what_windows_hold_and_what_is_stored()
     ensures items { (config : Parts) (moments : List Moment) →
         map (stored_of config) (items_stored config (endings config moments))
         ≡ (if config.memory == 0 then [] else stored config (qualified config moments)) }
+{}
+
+/// A quiet turn may be left out of a history whose ticks do not fall: the history tells the same without it. Where
+/// nothing was handed on to it, the turns after it hand on the same numbers, and begin with what was handed on to them
+/// exactly where they did so with it.
+pub fn a_quiet_turn_changes_nothing()
+    ensures same { (config : Parts) → HaveIntervals config → (before : List Turn) (turn : Turn) → IsQuiet config before turn →
+        (after : List Turn) (tick : ℕ) → EndBy tick_of tick (after ++ turn ∷ before) →
+        TellTheSame config (after ++ turn ∷ before) (after ++ before) }
+    ensures handed { (config : Parts) → HaveIntervals config → (before : List Turn) (turn : Turn) → IsQuiet config before turn →
+        (after : List Turn) (tick : ℕ) → EndBy tick_of tick (after ++ turn ∷ before) → handed_on config before ≡ 0 →
+        handed_on config (after ++ turn ∷ before) ≡ handed_on config (after ++ before) }
+    ensures causal { (config : Parts) → HaveIntervals config → (before : List Turn) (turn : Turn) → IsQuiet config before turn →
+        (after : List Turn) (tick : ℕ) → EndBy tick_of tick (after ++ turn ∷ before) →
+        IsCausal config (after ++ turn ∷ before) ↔ ((handed_on config before ≡ 0) × IsCausal config (after ++ before)) }
 {}

@@ -12,8 +12,9 @@ mod laws;
 
 pub use account::Account;
 pub use laws::{
-    how_stages_compose, the_fates_add_up, the_numbers_are_the_sizes_of_the_stages,
-    what_a_turn_more_keeps, what_is_told_as_sent_and_held_back, what_the_filters_give_of_an_event,
+    a_quiet_turn_changes_nothing, how_stages_compose, the_fates_add_up,
+    the_numbers_are_the_sizes_of_the_stages, what_a_turn_more_keeps,
+    what_is_told_as_sent_and_held_back, what_the_filters_give_of_an_event,
     what_windows_hold_and_what_is_stored, where_qualified_events_stand, which_candidates_are_sent,
     which_events_are_qualified, which_items_open_a_window,
 };
