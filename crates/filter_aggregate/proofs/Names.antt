@@ -1,5 +1,5 @@
 -- The names of other crates and of this crate's specs that more than one of its proofs stands on.
-pub use Rattle.std.proofs.Common.{◌≡◌, ℕ, suc, zero, ◌<◌, Bool, true, false, List, [], ◌∷◌, ◌++◌, length, Option, Some, None, option_to_list, option_and_then, if◌then◌else◌, sym, subst, append_assoc, arith, ◌≤◌, map, IfSome, option_map, refl, IsSome, ◌+◌, not, nat_le, rules, inl, inr}
+pub use Rattle.std.proofs.Common.{◌≡◌, ℕ, suc, zero, ◌<◌, Bool, true, false, List, [], ◌∷◌, ◌++◌, length, Option, Some, None, option_to_list, option_and_then, if◌then◌else◌, sym, subst, append_assoc, arith, ◌≤◌, map, IfSome, option_map, refl, IsSome, ◌+◌, not, nat_le, rules, inl, inr, is_some}
 pub use Rattle.std.proofs.lemmas.Bool.{eq-eqb, cases_eq}
 pub use Rattle.std.proofs.lemmas.List.{append-nil, get_or-map, get_or-set_same, get_or-set_other, length-set, length-map}
 pub use Rattle.std.specs.List.{AllByRecursion, list_any}

@@ -1,6 +1,10 @@
 -- Slots that stand for a list of calls stand for it with one call more.
-use Rattle.filter_aggregate.proofs.Names.{◌≡◌, ℕ, ◌<◌, ◌≤◌, false, List, [], ◌∷◌, length, map, Option, None, IsSome, sym, arith, slice_set, get_or-set_same, get_or-set_other, get_or-map, length-set, length-map, Qualified, Aggregate, Parts, event_at, plain_event, Call, closes_due, arrives, call_tick, told_by, EndBy, Slot, fresh_slot, slot_at, HaveIntervals, is_due, slot_closed, after_closing, slot_with, after_arrival, slot_by, slots_by, slot_after, Stands, inl, inr, cases_eq}
+use Rattle.filter_aggregate.proofs.Names.{◌≡◌, ℕ, ◌<◌, ◌≤◌, false, List, [], ◌∷◌, length, map, Option, None, IsSome, sym, arith, slice_set, get_or-set_same, get_or-set_other, get_or-map, length-set, length-map, Qualified, Aggregate, Parts, event_at, plain_event, Call, closes_due, arrives, call_tick, told_by, EndBy, Slot, fresh_slot, slot_at, HaveIntervals, is_due, slot_closed, after_closing, slot_with, after_arrival, slot_by, slots_by, slot_after, Stands, inl, inr, cases_eq, refl, is_some, Event}
+use Rattle.std.proofs.Common.{ap}
+use Rattle.std.proofs.lemmas.Bool.{cases_lt}
 use Rattle.std.proofs.lemmas.Bool.Decides.{nat_tests}
+use Rattle.std.proofs.lemmas.List.{get_or_past}
+use Rattle.chain_spec.specs.{closing_item}
 use Rattle.filter_aggregate.proofs.SlotLemmas.{slot_at_by}
 use Rattle.filter_aggregate.proofs.StepLemmas.{arrival_slot}
 
@@ -31,6 +35,16 @@ module _ {B : Type 0} (f : B → List ℕ) (config : Parts) (calls : List (Call 
     (stands : Stands config calls (slots_by f slots)) where
   slot_over : (event : ℕ) → event < length slots → slot_by f (slot_at slots event) ≡ slot_after (setting_of config event) event calls
   slot_over event there = rw (slot_at_by f slots event there) at (stands.each event (simp length-map there))
+
+  -- a window is due exactly where a turn closes it
+  pub due_closes : (tick event : ℕ) → is_due tick (slot_at slots event) ≡ is_some (closing_item (setting_of config event) event tick calls)
+  due_closes tick event = elim (cases_lt event (length slots)) [
+    | inl there ↦ grind (arith, nat_tests, slot_over event there)
+    | inr past ↦
+        let configured : length config.events ≤ event = omega (arith, stands.events, length-map slots (slot_by f), past) in
+        let none : setting_of config event ≡ None = ap (λ (e : Event). e.aggregate) (get_or_past config.events event (plain_event 0 0) configured) in
+        rw (get_or_past slots event (fresh_slot None) past, none) refl
+  ]
 
   -- one slot becomes what it is after one call more, and the others are it already
   stands_set : (call : Call (List ℕ)) (event : ℕ) (slot : Slot B) (now : List (Slot B)) → event < length slots

@@ -18,7 +18,7 @@ pub struct Slot<B> {
 
 impl<B: Parcel> Slot<B> {
     /// Whether a window is open whose interval has passed by the tick.
-    fn is_due(&self, tick: u64) -> bool
+    pub(crate) fn is_due(&self, tick: u64) -> bool
         ensures { result ≡ is_due tick self.now }
     {
         match (&self.setting, &self.window) {

@@ -71,6 +71,17 @@ impl<B: Parcel> Windows<B> {
         }
     }
 
+    /// Whether the event's window is due at the tick: then `close_due` gives its item.
+    pub fn is_due(&self, event: EventIndex, tick: u64) -> bool
+        ensures slot { result ≡ is_due tick (slot_at self.now event.0) }
+        ensures gives_over { (config : Parts) (calls : List (Call (List ℕ))) → Stands config calls (slots_by B.held self.now)
+            → result ≡ is_some (closing_item (event_at config event.0).aggregate event.0 tick calls) }
+    {
+        self.slots
+            .get(usize::from(event.0))
+            .is_some_and(|slot| slot.is_due(tick))
+    }
+
     /// Closes the event's window where it is due at the tick, and gives its one item.
     /// By: no loop; the parcel is moved (`moved`).
     pub fn close_due(&mut self, event: EventIndex, tick: u64) -> Option<Qualified<B>>
