@@ -1,9 +1,15 @@
 -- The windows of the events that are aggregated close, and it is as if those of all events did.
-use Rattle.event_chain.proofs.Names.{◌≡◌, ℕ, ◌+◌, ◌<◌, ◌≤◌, zero, suc, Bool, true, false, List, [], ◌∷◌, length, map, filter, None, is_some, refl, sym, ap, subst, ◌∙◌, arith, below_more, if◌then◌else◌, IsFalse, All, range_with_len, common_steps, length-map, set-get_or, Output, EventIndex, Parts, event_at, gated, Moment, closes, with_all, fresh_slot, is_due, slot_at, slot_by, Slot, stands_closing, Start, Filters, Knowing, IsBehind, Windowed, aggregating_in, is_aggregated, get_or-map, with_all-append}
+use Rattle.event_chain.proofs.Names.{◌≡◌, ℕ, ◌+◌, ◌<◌, ◌≤◌, zero, suc, Bool, true, false, List, [], ◌∷◌, length, map, filter, None, is_some, refl, sym, ap, subst, ◌∙◌, arith, below_more, if◌then◌else◌, IsFalse, All, range_with_len, common_steps, length-map, set-get_or, Output, EventIndex, Parts, event_at, gated, Moment, closes, with_all, fresh_slot, is_due, slot_at, slot_by, Slot, stands_closing, Start, Filters, Knowing, IsBehind, Windowed, aggregating_in, is_aggregated, get_or-map, with_all-append, ◌↔◌, inl, inr, get_or, get_or_past, list_any, moments, slots_by, Turn}
+use Rattle.event_chain.specs.Names.{WindowsStand}
+use Rattle.std.proofs.lemmas.Bool.{cases_Bool, cases_lt}
 use Rattle.std.proofs.lemmas.List.Elements.{All-filter}
+use Rattle.std.proofs.lemmas.List.Folds.{list_any_at, list_any_none}
+use Rattle.std.proofs.lemmas.Map.Views.{any-filter_same}
 use Rattle.std.proofs.lemmas.List.FromFn.{get_or-range_with_len, length-range_with_len, map-range_with_len_more}
 use Rattle.std.proofs.lemmas.List.Sums.{count_by-le-length, length-filter}
+use Rattle.chain_spec.specs.Quiet.{NoneDue}
 use Rattle.filter_aggregate.proofs.SlotLemmas.{slot_at_by}
+use Rattle.filter_aggregate.proofs.StandsLemmas.{due_closes}
 use Rattle.event_chain.proofs.CallLemmas.{IsSilent, none_of, behind_none}
 
 -- ---- numbers that pass a test, one after another
@@ -107,3 +113,33 @@ module _ {B W : Type 0} where
         let is = ap is_some (on.settings n) ∙ passes in
         closed_more n (λ config start moments. skip_one silent n (omega (arith, less, on.events)) is) (λ k settled. settled)
         (not_due tick (slot_at mid.windows n) is)
+
+-- ---- events whose windows are due
+
+-- a test of events is one of their indexes
+any_index : (p : ℕ → Bool) (events : List EventIndex)
+    → list_any (λ event. p event.0) events ≡ list_any p (map (λ event. event.0) events)
+any_index p [] = refl
+any_index p (event ∷ events) = rw (any_index p events) refl
+
+-- of the events that are aggregated none is due exactly where no window is
+pub none_due : {B : Type 0} (held : B → List ℕ) (config : Parts) (turns : List Turn) (tick : ℕ) (slots : List (Slot B)) (events : List EventIndex)
+    → WindowsStand config (gated config (moments config turns)) (slots_by held slots) → map (λ event. event.0) events ≡ aggregating_in slots
+    → (list_any (λ event. is_due tick (slot_at slots event.0)) events ≡ false) ↔ NoneDue config turns tick
+none_due held config turns tick slots events stands is =
+    let due = λ (k : ℕ). is_due tick (slot_at slots k) in
+    let all = range_with_len 0 (length slots) in
+    let asked : list_any (λ event. due event.0) events ≡ list_any due all =
+    any_index due events ∙ rw is (any-filter_same due (is_aggregated slots) true (λ k is. grind (arith, is)) all) in
+    let closing = due_closes held config (gated config (moments config turns)) slots stands tick in (
+      λ none k. none_of _ (sym (closing k) ∙ elim (cases_Bool (due k)) [
+        | inl late ↦ elim (cases_lt k (length slots)) [
+          | inl less ↦
+              let at : get_or all k 0 ≡ k = grind (arith, less, get_or-range_with_len) in
+              absurd (cc (sym asked ∙ none, list_any_at due all k 0 (grind (arith, less, length-range_with_len)) (rw at late)))
+          | inr past ↦ rw (get_or_past slots k (fresh_slot None) past) refl
+        ]
+        | inr early ↦ early
+      ]),
+      λ nothing. asked ∙ list_any_none due all (λ k d less. closing (get_or all k d) ∙ ap is_some (nothing (get_or all k d))),
+    )

@@ -1,12 +1,12 @@
 -- The names of other crates and of this crate's specs that more than one of its proofs stands on.
-pub use Rattle.std.proofs.Common.{◌≡◌, ℕ, ◌≤◌, Bool, true, false, List, [], ◌∷◌, ◌++◌, length, Option, Some, None, IfSome, is_some, option_to_list, option_map, refl, arith, ◌+◌, ◌<◌, zero, suc, map, filter, sym, ap, subst, ◌∙◌, below_more, if◌then◌else◌, rules, get_or, take, drop, reverse, drop-set-lt, length-set, append_assoc, append-nil, vec_capacity, ◌-◌}
+pub use Rattle.std.proofs.Common.{◌≡◌, ℕ, ◌≤◌, Bool, true, false, List, [], ◌∷◌, ◌++◌, length, Option, Some, None, IfSome, is_some, option_to_list, option_map, refl, arith, ◌+◌, ◌<◌, zero, suc, map, filter, sym, ap, subst, ◌∙◌, below_more, if◌then◌else◌, rules, get_or, take, drop, reverse, ◌↔◌, inl, inr, drop-set-lt, length-set, append_assoc, append-nil, vec_capacity, ◌-◌}
 pub use Rattle.std.proofs.lemmas.Bool.Decides.{nat_tests}
 pub use Rattle.std.proofs.lemmas.Grind.{common_steps}
 pub use Rattle.std.proofs.lemmas.List.{length-map, set-get_or, map-append, take_all, take_more, drop_more, reverse-append, get_or-map, get_or_past, drop_all}
 pub use Rattle.std.proofs.lemmas.List.Elements.{All-from_recursion}
 pub use Rattle.std.proofs.lemmas.List.Sorted.{All-permutation, IsPermutation-refl, IsPermutation-trans, IsPermutation-append_right, length_permutation}
 pub use Rattle.std.specs.Bool.{IsFalse}
-pub use Rattle.std.specs.List.{All, range_with_len}
+pub use Rattle.std.specs.List.{All, range_with_len, list_any}
 pub use Rattle.filter_chain.specs.{Sends, last_tick, newest_tick, IsShort, HandsBack, all_parcels, parcel_of, turn_by, carried_room}
 pub use Rattle.chain_spec.proofs.StageLemmas.{added_behind, with_all-append}
 pub use Rattle.chain_spec.specs.{Call, call_tick, closes_due, arrives, qualified_of, Fate, ending_at, coming, given, gated_at, aggregated_at, gated, aggregated, qualified, counted, arrival, alone, Head as Told, heads_of, Item, item_at, told_by, kept_parcel, Moment, act_moment, comes, closes, mode_is, state_is, head_moment, moments, with_all, verdict, EndBy}

@@ -1,11 +1,13 @@
 //! The chain itself: the filters between two turns.
 
-ghost use Rattle.std.specs.Prelude.{◌≡◌, ◌<◌, [], List, true, length, map, refl, reverse, IfOk, IsOk};
+ghost use Rattle.std.specs.Prelude.{◌≡◌, ◌<◌, [], List, true, false, length, ◌↔◌, map, refl, reverse, IfOk, IsOk};
 ghost use Rattle.ids_types.specs.Turns.{Turn};
 ghost use Rattle.ids_config.specs.Parts.{Parts};
 ghost use Rattle.filter_chain.specs.History.{rows_of};
+ghost use Rattle.chain_spec.specs.Quiet.{NoneDue};
 ghost use Rattle.chain_spec.specs.{mode_at, moments, state_at};
-ghost use Rattle.filter_aggregate.specs.Account.{all_kept};
+ghost use Rattle.filter_aggregate.specs.{all_kept, is_due, slot_at};
+ghost use Rattle.std.specs.List.{list_any};
 ghost use Rattle.event_chain.specs.{aggregating_in, Stands, StandsWatched};
 
 use crate::counting::Counting;
@@ -106,6 +108,15 @@ impl<B: Parcel, W: Witness> EventChain<B, W> {
         self.filters.gate.state()
     }
 
+    /// Whether a turn at this tick closes a window. If not, and if it has no entries and no counts, it is quiet.
+    /// Steps: the events that are aggregated, at most 256. By: read off.
+    pub fn closes(&self, tick: u64) -> bool
+        ensures { (config : Parts) (turns : List Turn) → StandsWatched B.held W.knows config turns self.now →
+            (result ≡ false) ↔ NoneDue config turns tick }
+    {
+        any_due(&self.filters.windows, &self.aggregating, tick)
+    }
+
     /// The event memory after the last turn, once the chain has no more to take.
     /// Steps: the events, at most 256, let go. Memory: none; all but the memory is given back. By: read off.
     pub fn into_memory(self) -> Memory
@@ -193,4 +204,11 @@ fn aggregating<B: Parcel>(alloc: Global, windows: &Windows<B>) -> Result<Vec<Eve
         }
     }
     Ok(found)
+}
+
+/// Whether the window of one of these events is due at the tick.
+fn any_due<B: Parcel>(windows: &Windows<B>, events: &[EventIndex], tick: u64) -> bool
+    ensures { result ≡ list_any (λ event. is_due tick (slot_at windows.now event.0)) events.now }
+{
+    events.iter().any(|event| windows.is_due(*event, tick))
 }
