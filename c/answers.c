@@ -133,7 +133,7 @@ static void made_header(void)
     expect("IDSM_CFG_EVENTS", 5, IDSM_CFG_EVENTS);
     expect("IDSM_CFG_RING", 4, IDSM_CFG_RING);
     expect("IDSM_CFG_BUFFER", 300, IDSM_CFG_BUFFER);
-    expect("IDSM_CFG_MEMORY", 7778, IDSM_CFG_MEMORY);
+    expect("IDSM_CFG_MEMORY", 7202, IDSM_CFG_MEMORY);
     expect("IDSM_EVENT_42", 42, IDSM_EVENT_42);
     expect("IDSM_EVENT_BAD_LOGIN", 4100, IDSM_EVENT_BAD_LOGIN);
     expect("the place of 42", 0, idsm_cfg_place(42));
