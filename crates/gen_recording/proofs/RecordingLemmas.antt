@@ -1,10 +1,7 @@
 -- Calls and turns, one after another.
-use Rattle.gen_recording.proofs.Names.{◌≡◌, ◌≤◌, ◌<◌, ◌+◌, ℕ, zero, suc, List, [], ◌∷◌, ◌++◌, length, map, take, drop, get_or, reverse, refl, sym, ap, ◌∙◌, arith, common_steps, append_assoc, Entry, Plain, flat_map, length-map, plain_entry, Parts, FitsAct, KeepUpFrom, Asked, Round, reports, changes, sets, round_ticks, Call, Plan, act_of, call_by, calls_from, calls_of, entries_of, entry_of, CanAsk, IsAt, Recorder, begun_round, round_at}
+use Rattle.gen_recording.proofs.Names.{◌≡◌, ◌≤◌, ◌<◌, ◌+◌, ℕ, zero, suc, List, [], ◌∷◌, ◌++◌, length, map, take, drop, get_or, reverse, refl, sym, ap, ◌∙◌, arith, common_steps, append_assoc, flat_map, length-map, plain_entry, Parts, FitsAct, KeepUpFrom, Asked, Round, reports, changes, sets, round_ticks, Call, Plan, act_of, call_by, calls_from, calls_of, entries_of, entry_of, CanAsk, IsAt, Recorder, begun_round, round_at}
 use Rattle.std.proofs.lemmas.Grind.{reverse_onto}
-use Rattle.std.proofs.lemmas.List.{drop_more, map_push}
-use Rattle.journal.proofs.PrintingLemmas.{entries-push}
-use Rattle.journal.specs.Printing.{lines_text}
-use Rattle.text_spec.specs.{ended_line, enters, fields_of}
+use Rattle.std.proofs.lemmas.List.{drop_more}
 use Rattle.text_spec.proofs.TraceFacts.{keep_split, last_from-push}
 
 -- entries of calls with one call more
@@ -56,8 +53,3 @@ next_keeps least rounds k end there keeps =
     let rest = flat_map round_ticks (drop (k + 1) rounds) in
     let both = keep_split least (round_ticks round) (rest ++ end ∷ []) (rw (drop_more rounds k (begun_round 0 [] 0), append_assoc (round_ticks round) rest (end ∷ [])) at keeps) in
     (both.0, rw (last_from-push least round.beside round.after []) at both.1)
-
--- how entries are printed, one after another
-pub plain_more : (front : List (Entry Plain)) (entry : Entry Plain)
-    → lines_text (map enters (map plain_entry (front ++ entry ∷ []))) ≡ lines_text (map enters (map plain_entry front)) ++ ended_line (fields_of (enters (plain_entry entry)))
-plain_more front entry = rw (map_push plain_entry front entry) (entries-push (map plain_entry front) (plain_entry entry))

@@ -1,9 +1,6 @@
 //! A history in the making: turns of calls that lose nothing, which the filter chain takes one by one.
 
 ghost use Rattle.std.specs.Prelude.{◌≡◌, ◌≤◌, ◌<◌, ◌∷◌, ◌++◌, [], List, length, IfOk, OnOk};
-ghost use Rattle.filter_chain.specs.Turning.{turn_by};
-ghost use Rattle.journal.specs.Printing.{lines_text};
-ghost use Rattle.text_spec.specs.JournalText.{turn_told};
 ghost use Rattle.trace_text.specs.Lines.{line_asked};
 ghost use Rattle.gen_recording.specs.{HasClass, Call, Plan, CanAsk, IsAt, IsRecording};
 
@@ -13,8 +10,8 @@ use chain_plain::{Desk, Tally};
 use event_chain::EventChain;
 use filter_chain::Chain;
 use ids_config::Config;
-use ids_types::{Entry, NoMemory, Plain, TurnHead};
-use journal::{push_entry, push_head};
+use ids_types::{NoMemory, Plain, TurnHead};
+use journal::push_items;
 use std::alloc::Global;
 use trace_text::Line;
 
@@ -78,22 +75,9 @@ impl<'t> Recorder<'t> {
             lost_contexts: 0,
             limited: self.chain.limited(),
         };
-        push_turn(&mut self.journal, &head, &self.desk.items)?;
+        push_items(&mut self.journal, &head, &self.desk.items)?;
         self.desk.turn(&mut self.chain, &head);
         self.tick = tick;
         self.tally.add(&self.desk.out, self.chain.limited())
     }
-}
-
-/// Appends the lines of a turn of these entries.
-#[tactic(auto, using(crate::proofs::RecordingLemmas::plain_more, std::proofs::lemmas::Grind::common_steps))]
-fn push_turn(out: &mut Vec<u8>, head: &TurnHead, items: &[Entry<Plain<'_>>]) -> Result<(), NoMemory>
-    ensures { OnOk result (out.new.items ≡
-        out.old.items ++ lines_text (turn_told (turn_by (λ p. p.0.now) head.now items.now))) }
-{
-    push_head(out, head)?;
-    for entry in items {
-        push_entry(out, entry)?;
-    }
-    Ok(())
 }

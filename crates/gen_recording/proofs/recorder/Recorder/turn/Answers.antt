@@ -4,8 +4,7 @@ use Rattle.ids_types.specs.declared.entry.TurnHead.{TurnHead}
 use Rattle.chain_plain.specs.Telling.{HasDeskRoom, Tells}
 use Rattle.chain_plain.proofs.TellingLemmas.{tells_more}
 use Rattle.filter_chain.proofs.TranscriptLemmas.{last_of}
-use Rattle.journal.specs.Printing.{lines_text}
-use Rattle.text_spec.specs.JournalText.{turn_told}
+use Rattle.journal.specs.Printing.{turn_text}
 use Rattle.journal.proofs.PrintingLemmas.{turns-push}
 use Rattle.gen_recording.proofs.recorder.Recorder.turn.Goals as goal
 
@@ -33,8 +32,8 @@ returns-clause-at c = on_ok_weaker c.add.result (λ tallies before calls at.
     let handed = c.limited-2.ensures.value config (history ++ turn ∷ []) now in
     let tells = tells_more handed at.tells sends tallies in
     let old = c.args.self.now.journal.items in
-    let more : c.push_turn.new.out.items ≡ old ++ lines_text (turn_told turn) =
-    c.in_ok-push_turn.ensures ∙ ap (λ items. old ++ lines_text (turn_told (turn_by held head items))) c.deref.ensures.value in
+    let more : c.push_items.new.out.items ≡ old ++ turn_text turn =
+    c.in_ok-push_items.ensures ∙ ap (λ items. old ++ turn_text (turn_by held head items)) c.deref.ensures.value in
     record {
       journal = rw (← made, more, at.journal) (simp (append-nil, turns-push));
       tick = sym (ap last_tick (sym made) ∙ last_of history turn);
