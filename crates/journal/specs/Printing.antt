@@ -29,6 +29,7 @@ most_with Absent = 48
 most_with (Kept class claim bytes) = 64 + 2 * length bytes
 most_with (Missing numbers) = 48 + (15 * length numbers - 1)
 
+-- how many bytes the line of an act has at most
 abbrev pub most_of : Act (List ℕ) → ℕ
 most_of (Report event count stamp context) = most_with context
 most_of other = 52
