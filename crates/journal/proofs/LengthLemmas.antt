@@ -1,17 +1,20 @@
 -- How many bytes a line has at most.
-use Rattle.journal.proofs.Names.{◌≡◌, ℕ, ◌+◌, ◌-◌, ◌<◌, ◌≤◌, ◌^◌, List, [], ◌∷◌, length, map, arith, true, decimal, join_with_byte, point, ended_line, Line, enters, loses, fields_of}
+use Rattle.journal.proofs.Names.{◌≡◌, ℕ, ◌+◌, ◌-◌, ◌<◌, ◌≤◌, ◌^◌, List, [], ◌∷◌, length, map, arith, true, decimal, join_with_byte, point, ended_line, Line, enters, loses, fields_of, Entry, refl, ap, ◌∙◌}
 use Rattle.std.proofs.lemmas.Bool.Decides.{nat_tests}
 use Rattle.std.proofs.lemmas.Fmt.{length-decimal-le_wide}
-use Rattle.std.proofs.lemmas.List.{length-append}
+use Rattle.std.proofs.lemmas.Grind.{common_steps}
+use Rattle.std.proofs.lemmas.List.{length-append, take_more}
+use Rattle.std.proofs.lemmas.List.Sums.{sum_by-cons, sum_by_push}
+use Rattle.ids_types.specs.declared.entry.TurnHead.{TurnHead}
 use Rattle.std.specs.List.{list_all}
-use Rattle.std.specs.Prelude.{◌*◌, Option, Some, None}
+use Rattle.std.specs.Prelude.{◌*◌, get_or, sum_by, take, Option, Some, None}
 use Rattle.ids_config.specs.Parts.{Parts}
 use Rattle.text_spec.proofs.HexadecimalLemmas.{length_hex}
 use Rattle.text_spec.proofs.JournalFacts.{sensor_is_there}
 use Rattle.text_spec.specs.Below.{Mode, Stamp, mode_name, to_be_bytes, w64}
 use Rattle.text_spec.specs.JournalText.{Carried, Absent, Kept, Missing, Act, Report, State, SetMode}
 use Rattle.text_spec.specs.{act_fields, begins, context_word, has_event, is_act, is_call, is_claim, is_context, is_in_ranges, stamp_text}
-use Rattle.journal.specs.Printing.{most_bytes, most_of, most_with}
+use Rattle.journal.specs.Printing.{most_bytes, most_for, most_of, most_with}
 
 -- how many digits a number has at most
 short : (n : ℕ) → (n < 10 → length (decimal n) ≤ 1) × (n < 10 ^ 2 → length (decimal n) ≤ 2) × (n < 10 ^ 3 → length (decimal n) ≤ 3)
@@ -57,3 +60,21 @@ line_is_short config (begins head) few is =
     simp length-append (grind (arith, nat_tests, short head.tick, short head.lost_events, short head.lost_contexts, short head.limited, is))
 line_is_short config (enters entry) few is = act_short config entry.caller entry.call entry.act few (grind (arith, is)) (grind (arith, is)) (grind (arith, is))
 line_is_short config (loses loss) few is = simp length-append (grind (arith, nat_tests, short loss.caller, short loss.call, short loss.given, is))
+
+-- ---- turns
+
+module _ {B : Type 0} (held : B → Entry (List ℕ)) where
+  -- how many bytes the lines of entries have at most
+  abbrev pub most_in : List B → ℕ
+  most_in entries = sum_by (λ entry. most_of (held entry).act) entries
+
+  pub most_is : (entries : List B) → sum_by most_bytes (map enters (map held entries)) ≡ most_in entries
+  most_is [] = refl
+  most_is (entry ∷ entries) = let rest = most_is entries in grind (arith, common_steps, rest)
+
+  pub most_more : (entries : List B) (i : ℕ) (entry d : B) → i < length entries → entry ≡ get_or entries i d
+      → most_in (take (i + 1) entries) ≡ most_in (take i entries) + most_of (held entry).act
+  most_more entries i entry d within is = rw (take_more entries i d within, ← is) (sum_by_push (λ entry. most_of (held entry).act) (take i entries) entry)
+
+  pub most_all : (head : TurnHead) (entries : List B) → most_for (record { head = head; entries = map held entries }) ≡ 67 + most_in entries
+  most_all head entries = sum_by-cons most_bytes (begins head) (map enters (map held entries)) ∙ ap (λ n. 67 + n) (most_is entries)

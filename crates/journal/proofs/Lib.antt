@@ -1,3 +1,4 @@
+pub mod AppendingLemmas
 pub mod FittingLemmas
 pub mod LengthLemmas
 pub mod Names

@@ -1,5 +1,5 @@
 -- The text of some lines.
-use Rattle.std.specs.Prelude.{ℕ, ◌+◌, ◌-◌, ◌*◌, ◌==◌, length, List, ◌∷◌, map, decimal, if◌then◌else◌}
+use Rattle.std.specs.Prelude.{ℕ, ◌+◌, ◌-◌, ◌*◌, ◌==◌, length, List, ◌∷◌, map, decimal, sum_by, if◌then◌else◌}
 use Rattle.std.specs.List.{flat_map}
 use Rattle.ids_types.specs.{Turn}
 use Rattle.text_spec.specs.{point, Line, begins, enters, loses, line_for, text_of, turn_told}
@@ -39,3 +39,7 @@ abbrev pub most_bytes : Line → ℕ
 most_bytes (begins head) = 67
 most_bytes (enters entry) = most_of entry.act
 most_bytes (loses loss) = 34
+
+-- and all lines of a turn
+abbrev pub most_for : Turn → ℕ
+most_for turn = sum_by most_bytes (turn_told turn)

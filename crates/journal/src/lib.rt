@@ -10,6 +10,7 @@
 mod claims;
 mod form;
 mod laws;
+mod lengths;
 mod line;
 mod pairs;
 mod printing;
@@ -22,6 +23,7 @@ mod taking;
 pub use laws::{
     a_journal_is_printed_turn_by_turn, how_long_a_line_is, which_journals_fit, which_turns_fit,
 };
+pub use lengths::{most_of_a_turn, turn_fits};
 pub use printing::{print, push_entry, push_fields, push_head, push_items, push_loss};
 pub use reading::{Journal, read};
 pub use text_spec::TextFault as JournalFault;

@@ -4,7 +4,7 @@ ghost use Rattle.std.specs.Prelude.{◌≡◌, ◌<◌, ◌++◌, ◌∷◌, [],
 ghost use Rattle.std.specs.List.{flat_map, join_with_byte};
 ghost use Rattle.ids_types.specs.{carried_by, entry_by, turn_at};
 ghost use Rattle.ids_types.specs.declared.entry.Act.TheVariants.{Report, State, SetMode};
-ghost use Rattle.text_spec.specs.{point, context_word, ended_line, begins, enters, loses, fields_of, turn_told, line_for, journal_text, Fits, IsJournal, stamp_text, space, line_feed, line_of};
+ghost use Rattle.text_spec.specs.{Appends, point, context_word, ended_line, begins, enters, loses, fields_of, turn_told, line_for, journal_text, Fits, IsJournal, stamp_text, space, line_feed, line_of};
 ghost use Rattle.ids_config.specs.Parts.{Parts};
 ghost use Rattle.journal.specs.Answers.{told};
 ghost use Rattle.journal.specs.Printing.{lines_text, pointed, turn_text};
@@ -62,10 +62,16 @@ pub fn push_items<B: Parcel>(
     head: &TurnHead,
     items: &[Entry<B>],
 ) -> Result<(), NoMemory>
-    ensures { OnOk result (out.new.items ≡ out.old.items
-        ++ turn_text (record { head = head.now; entries = map (entry_by B.held) items.now })) }
+    ensures { Appends out.old out.new result (turn_text (record { head = head.now; entries = map (entry_by B.held) items.now })) }
 {
     push_head(out, head)?;
+    push_entries(out, items)
+}
+
+/// Appends entries as lines.
+fn push_entries<B: Parcel>(out: &mut Vec<u8>, items: &[Entry<B>]) -> Result<(), NoMemory>
+    ensures { Appends out.old out.new result (lines_text (map enters (map (entry_by B.held) items.now))) }
+{
     for entry in items {
         push_entry(out, entry)?;
     }
@@ -75,7 +81,7 @@ pub fn push_items<B: Parcel>(
 /// Appends `T TICK LOST_EVENTS LOST_CONTEXTS LIMITED` as a line.
 /// Steps: the bytes of the line. Memory: may answer want of memory. By: read off.
 pub fn push_head(out: &mut Vec<u8>, head: &TurnHead) -> Result<(), NoMemory>
-    ensures { OnOk result (out.new.items ≡ out.old.items ++ ended_line (fields_of (begins head.now))) }
+    ensures { Appends out.old out.new result (ended_line (fields_of (begins head.now))) }
 {
     out.push(b'T')?;
     push_field(out, head.tick)?;
@@ -88,7 +94,7 @@ pub fn push_head(out: &mut Vec<u8>, head: &TurnHead) -> Result<(), NoMemory>
 /// Appends `L CALLER CALL GIVEN` as a line.
 /// Steps: the bytes of the line. Memory: may answer want of memory. By: read off.
 pub fn push_loss(out: &mut Vec<u8>, loss: &Loss) -> Result<(), NoMemory>
-    ensures { OnOk result (out.new.items ≡ out.old.items ++ ended_line (fields_of (loses loss.now))) }
+    ensures { Appends out.old out.new result (ended_line (fields_of (loses loss.now))) }
 {
     push_call(out, b'L', loss.caller, loss.call)?;
     push_field(out, loss.given)?;
@@ -98,8 +104,7 @@ pub fn push_loss(out: &mut Vec<u8>, loss: &Loss) -> Result<(), NoMemory>
 /// Appends an entry as a line.
 /// Steps: the bytes of the line. Memory: may answer want of memory. By: read off.
 pub fn push_entry<B: Parcel>(out: &mut Vec<u8>, entry: &Entry<B>) -> Result<(), NoMemory>
-    ensures { OnOk result (out.new.items ≡
-        out.old.items ++ ended_line (fields_of (enters (entry_by B.held entry.now)))) }
+    ensures { Appends out.old out.new result (ended_line (fields_of (enters (entry_by B.held entry.now)))) }
 {
     push_fields(out, entry)?;
     Ok(out.push(b'\n')?)
@@ -108,8 +113,7 @@ pub fn push_entry<B: Parcel>(out: &mut Vec<u8>, entry: &Entry<B>) -> Result<(), 
 /// Appends the line of an entry, without its line feed.
 /// Steps: the bytes of the line. Memory: may answer want of memory. By: read off.
 pub fn push_fields<B: Parcel>(out: &mut Vec<u8>, entry: &Entry<B>) -> Result<(), NoMemory>
-    ensures { OnOk result (out.new.items ≡
-        out.old.items ++ line_for (enters (entry_by B.held entry.now))) }
+    ensures { Appends out.old out.new result (line_for (enters (entry_by B.held entry.now))) }
 {
     match &entry.act {
         Act::Report {
@@ -138,8 +142,7 @@ pub fn push_fields<B: Parcel>(out: &mut Vec<u8>, entry: &Entry<B>) -> Result<(),
 
 /// Appends a line's letter, the caller and its call.
 fn push_call(out: &mut Vec<u8>, letter: u8, caller: u8, call: u64) -> Result<(), NoMemory>
-    ensures { OnOk result (out.new.items ≡
-        out.old.items ++ (letter ∷ ((space ∷ decimal caller) ++ (space ∷ decimal call)))) }
+    ensures { Appends out.old out.new result ((letter ∷ ((space ∷ decimal caller) ++ (space ∷ decimal call)))) }
 {
     out.push(letter)?;
     push_field(out, u64::from(caller))?;
@@ -154,9 +157,7 @@ fn push_report<B: Parcel>(
     stamp: Option<Stamp>,
     context: &Carried<B>,
 ) -> Result<(), NoMemory>
-    ensures { OnOk result (out.new.items ≡ out.old.items ++ ((space ∷ decimal event.0)
-        ++ ((space ∷ decimal count) ++ ((space ∷ stamp_text stamp)
-        ++ (space ∷ context_word (carried_by B.held context.now)))))) }
+    ensures { Appends out.old out.new result (((space ∷ decimal event.0) ++ ((space ∷ decimal count) ++ ((space ∷ stamp_text stamp) ++ (space ∷ context_word (carried_by B.held context.now)))))) }
 {
     push_field(out, u64::from(event.0))?;
     push_field(out, u64::from(count))?;
@@ -168,8 +169,7 @@ fn push_report<B: Parcel>(
 
 /// Appends the word of a context.
 fn push_context<B: Parcel>(out: &mut Vec<u8>, context: &Carried<B>) -> Result<(), NoMemory>
-    ensures { OnOk result (out.new.items ≡
-        out.old.items ++ context_word (carried_by B.held context.now)) }
+    ensures { Appends out.old out.new result (context_word (carried_by B.held context.now)) }
 {
     match context {
         Carried::Absent => Ok(out.push(b'-')?),
@@ -193,8 +193,7 @@ fn push_context<B: Parcel>(out: &mut Vec<u8>, context: &Carried<B>) -> Result<()
 
 /// Appends numbers with points between them.
 fn push_claims(out: &mut Vec<u8>, numbers: &Numbers) -> Result<(), NoMemory>
-    ensures { OnOk result (out.new.items ≡
-        out.old.items ++ join_with_byte point (map decimal numbers.now)) }
+    ensures { Appends out.old out.new result (join_with_byte point (map decimal numbers.now)) }
 {
     for i in 0..numbers.len() {
         push_claim(out, i, numbers.get(i).unwrap())?;
@@ -204,7 +203,7 @@ fn push_claims(out: &mut Vec<u8>, numbers: &Numbers) -> Result<(), NoMemory>
 
 /// Appends a number, after a point unless it is the first.
 fn push_claim(out: &mut Vec<u8>, i: usize, number: u64) -> Result<(), NoMemory>
-    ensures { OnOk result (out.new.items ≡ out.old.items ++ pointed i number) }
+    ensures { Appends out.old out.new result (pointed i number) }
 {
     if i > 0 {
         out.push(b'.')?;

@@ -33,4 +33,4 @@ pub use Rattle.text_spec.specs.TraceFaults.{act_asked, is_allowed, keep_up, Past
 pub use Rattle.text_spec.specs.TraceForm.{asked_report_form, asked_state_form, asked_mode_form, round_end_form, trace_forms, opening_in, trace_told_by}
 pub use Rattle.text_spec.specs.TraceReading.{trace_grammar, trace_in, MayAsk, IsAllowedRound, AreTicks, AreRounds}
 pub use Rattle.text_spec.specs.TraceText.{calls, TraceLine, opens, closes, number_fields, asked_fields, trace_fields, trace_line_for, callers_told, round_told, rounds_told, trace_text}
-pub use Rattle.text_spec.specs.Words.{Written, pieces_left, space, line_feed, absent, pieces_of, differs, words_of, line_of, text_of}
+pub use Rattle.text_spec.specs.Words.{Appends, Written, pieces_left, space, line_feed, absent, pieces_of, differs, words_of, line_of, text_of}

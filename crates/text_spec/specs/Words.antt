@@ -1,7 +1,8 @@
 -- Lines of a text, each ended by a line feed, and the words of a line, one space between each two.
 -- Source: the text formats of this project.
-use Rattle.std.specs.Prelude.{◌≡◌, ◌≤◌, ◌+◌, ◌==◌, ◌∷◌, ◌++◌}
-use Rattle.text_spec.specs.Below.{Vec, vec_len, vec_capacity, length, Option, Some, None, ℕ, Bool, not, List, [], codes, slice_split, join_with_byte}
+use Rattle.std.specs.Prelude.{◌≡◌, ◌<◌, ◌≤◌, ◌+◌, ◌==◌, ◌∷◌, ◌++◌}
+use Rattle.ids_types.specs.declared.memory.NoMemory.{NoMemory}
+use Rattle.text_spec.specs.Below.{Vec, vec_len, vec_capacity, length, Option, Some, None, ℕ, Bool, not, List, [], OnErr, OnOk, Result, codes, slice_split, join_with_byte}
 
 -- the character between two words
 abbrev pub space : ℕ
@@ -45,4 +46,10 @@ text_of (line ∷ lines) = line ++ line_feed ∷ text_of lines
 pub record Written {Z : Type 0} (old new : Vec ℕ Z) (text : List ℕ) : Type 0 where
   pub items : new.items ≡ old.items ++ text
   pub len : vec_len new ≡ vec_len old + length text
+  pub capacity : vec_capacity old ≤ vec_capacity new
+
+-- it is appended, or there is too little room for it, which is never less than before
+pub record Appends {Z : Type 0} (old new : Vec ℕ Z) (result : Result (Unit {0}) NoMemory) (text : List ℕ) : Type 0 where
+  pub ok : OnOk result (new.items ≡ old.items ++ text)
+  pub full : OnErr result (vec_capacity old < vec_len old + length text)
   pub capacity : vec_capacity old ≤ vec_capacity new

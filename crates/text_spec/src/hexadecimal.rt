@@ -1,7 +1,7 @@
 //! Bytes to lower-case hexadecimal digits and back.
 
 ghost use Rattle.std.specs.Prelude.{◌≡◌, ◌/◌, ◌%◌, ◌<◌, ◌≤◌, ◌++◌, ◌*◌, ◌∷◌, ◌+◌};
-ghost use Rattle.text_spec.specs.{Written, ℕ, List, length, take, drop, IsTrue, OnOk, OnErr, [], vec_len, vec_capacity, slice_index, list_all, IsBytes, encode_lower, lower_digits, bytes_word, hex_in, is_lower_digit as writes_digit, IsWritten};
+ghost use Rattle.text_spec.specs.{Appends, Written, ℕ, List, length, take, drop, IsTrue, OnOk, OnErr, [], vec_len, vec_capacity, slice_index, list_all, IsBytes, encode_lower, lower_digits, bytes_word, hex_in, is_lower_digit as writes_digit, IsWritten};
 
 use ids_types::NoMemory;
 
@@ -43,13 +43,11 @@ fn value_of(digit: u8) -> u8
 }
 
 /// Appends the text of the bytes.
-/// Steps: two digits a byte. Memory: may answer want of memory, only where the room is short. By: `full`; read off.
+/// Steps: two digits a byte. Memory: may answer want of memory, only where the room is short. By: `added`; read off.
 #[tactic(auto, using(crate::proofs::HexadecimalLemmas::length_hex, std::proofs::lemmas::Grind::common_steps))]
 pub fn push_hex(out: &mut Vec<u8>, bytes: &[u8]) -> Result<(), NoMemory>
-    ensures ok { OnOk result (out.new.items ≡ out.old.items ++ encode_lower bytes.now) }
+    ensures added { Appends out.old out.new result (encode_lower bytes.now) }
     ensures err { OnErr result (out.new.items ≡ out.old.items) }
-    ensures full { let text = encode_lower bytes.now in
-        OnErr result (vec_capacity out.old < vec_len out.old + length text) }
 {
     out.reserve(2 * bytes.len())?;
     put_hex(out, bytes);

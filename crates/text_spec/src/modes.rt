@@ -1,17 +1,15 @@
 //! The names of reporting modes in a text.
 
 ghost use Rattle.std.specs.Prelude.{◌≡◌, ◌++◌, ◌+◌, ◌<◌};
-ghost use Rattle.text_spec.specs.{ℕ, List, Some, length, vec_len, vec_capacity, OnOk, OnErr, mode_name, mode_named};
+ghost use Rattle.text_spec.specs.{Appends, ℕ, List, Some, length, vec_len, vec_capacity, OnOk, OnErr, mode_name, mode_named};
 
 use ids_types::{Mode, NoMemory};
 
 /// Appends the name of the mode.
-/// Steps: at most 26 bytes. Memory: may answer want of memory, only where the room is short. By: `full`; read off.
+/// Steps: at most 26 bytes. Memory: may answer want of memory, only where the room is short. By: `added`; read off.
 pub fn push_mode(out: &mut Vec<u8>, mode: Mode) -> Result<(), NoMemory>
-    ensures ok { OnOk result (out.new.items ≡ out.old.items ++ mode_name mode) }
+    ensures added { Appends out.old out.new result (mode_name mode) }
     ensures err { OnErr result (out.new.items ≡ out.old.items) }
-    ensures full { let text = mode_name mode in
-        OnErr result (vec_capacity out.old < vec_len out.old + length text) }
 {
     Ok(out.extend_from_slice(mode.name().as_bytes())?)
 }

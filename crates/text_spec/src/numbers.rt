@@ -1,7 +1,7 @@
 //! Decimal numbers, read and written.
 
 ghost use Rattle.std.specs.Prelude.{◌≡◌, ◌<◌, ◌≤◌, ◌^◌, ◌++◌, ◌∷◌, ◌+◌, ◌*◌, ◌/◌, ◌%◌, if◌then◌else◌};
-ghost use Rattle.text_spec.specs.{Written, ℕ, List, option_map, decimal, IsTrue, OnOk, OnErr, [], length, vec_len, vec_capacity, is_ascii_digit, list_all, digits_value, space, capped, number_in, zero_digit};
+ghost use Rattle.text_spec.specs.{Appends, Written, ℕ, List, option_map, decimal, IsTrue, OnOk, OnErr, [], length, vec_len, vec_capacity, is_ascii_digit, list_all, digits_value, space, capped, number_in, zero_digit};
 
 use ids_types::NoMemory;
 
@@ -30,13 +30,11 @@ pub(crate) fn with_digit(number: u64, digit: u64) -> u64
 }
 
 /// Appends the text of the number: quick where it has one digit or two, as most have.
-/// Steps: at most 20 digits. Memory: may answer want of memory, only where the room is short. By: `full`; read off.
+/// Steps: at most 20 digits. Memory: may answer want of memory, only where the room is short. By: `added`; read off.
 #[tactic(auto, using(crate::proofs::NumbersLemmas::written))]
 pub fn push_number(out: &mut Vec<u8>, number: u64) -> Result<(), NoMemory>
-    ensures ok { OnOk result (out.new.items ≡ out.old.items ++ decimal number) }
+    ensures added { Appends out.old out.new result (decimal number) }
     ensures err { OnErr result (out.new.items ≡ out.old.items) }
-    ensures full { let text = decimal number in
-        OnErr result (vec_capacity out.old < vec_len out.old + length text) }
 {
     if number >= 100 || out.capacity() - out.len() < 2 {
         return push_long_number(out, number);
@@ -49,10 +47,8 @@ pub fn push_number(out: &mut Vec<u8>, number: u64) -> Result<(), NoMemory>
 #[inline(never)]
 #[tactic(auto, using(crate::proofs::NumbersLemmas::written))]
 fn push_long_number(out: &mut Vec<u8>, number: u64) -> Result<(), NoMemory>
-    ensures ok { OnOk result (out.new.items ≡ out.old.items ++ decimal number) }
+    ensures added { Appends out.old out.new result (decimal number) }
     ensures err { OnErr result (out.new.items ≡ out.old.items) }
-    ensures full { let text = decimal number in
-        OnErr result (vec_capacity out.old < vec_len out.old + length text) }
 {
     if out.capacity() - out.len() < MOST_DIGITS {
         out.reserve(digits_len(number))?;
@@ -62,13 +58,11 @@ fn push_long_number(out: &mut Vec<u8>, number: u64) -> Result<(), NoMemory>
 }
 
 /// Appends a space and a number: quick where it has one digit or two, as most have.
-/// Steps: at most 21 bytes. Memory: may answer want of memory, only where the room is short. By: `full`; read off.
+/// Steps: at most 21 bytes. Memory: may answer want of memory, only where the room is short. By: `added`; read off.
 #[tactic(auto, using(crate::proofs::NumbersLemmas::written))]
 pub fn push_field(out: &mut Vec<u8>, number: u64) -> Result<(), NoMemory>
-    ensures ok { OnOk result (out.new.items ≡ out.old.items ++ (space ∷ decimal number)) }
+    ensures added { Appends out.old out.new result (space ∷ decimal number) }
     ensures err { OnErr result (out.new.items ≡ out.old.items) }
-    ensures full { let text = space ∷ decimal number in
-        OnErr result (vec_capacity out.old < vec_len out.old + length text) }
 {
     if number >= 100 || out.capacity() - out.len() < 3 {
         return push_long_field(out, number);
@@ -82,10 +76,8 @@ pub fn push_field(out: &mut Vec<u8>, number: u64) -> Result<(), NoMemory>
 #[inline(never)]
 #[tactic(auto, using(crate::proofs::NumbersLemmas::written))]
 fn push_long_field(out: &mut Vec<u8>, number: u64) -> Result<(), NoMemory>
-    ensures ok { OnOk result (out.new.items ≡ out.old.items ++ (space ∷ decimal number)) }
+    ensures added { Appends out.old out.new result (space ∷ decimal number) }
     ensures err { OnErr result (out.new.items ≡ out.old.items) }
-    ensures full { let text = space ∷ decimal number in
-        OnErr result (vec_capacity out.old < vec_len out.old + length text) }
 {
     if out.capacity() - out.len() <= MOST_DIGITS {
         out.reserve(1 + digits_len(number))?;

@@ -1,7 +1,7 @@
 //! Timestamps, read and written.
 
 ghost use Rattle.std.specs.Prelude.{◌≡◌, ◌<◌, ◌^◌, ◌≤◌, ◌++◌, ◌+◌};
-ghost use Rattle.text_spec.specs.{Written, ℕ, List, Option, OnOk, OnErr, length, vec_len, vec_capacity, option_and_then, option_map, stamp_in, stamp_text, stamp_of_bytes, hex_in, Stamp};
+ghost use Rattle.text_spec.specs.{Appends, Written, ℕ, List, Option, OnOk, OnErr, length, vec_len, vec_capacity, option_and_then, option_map, stamp_in, stamp_text, stamp_of_bytes, hex_in, Stamp};
 
 use crate::hexadecimal::{are_lower_digits, push_hex, put_bytes, put_hex};
 use ids_types::{NoMemory, Stamp};
@@ -33,12 +33,10 @@ fn stamp_of_digits(word: &[u8]) -> Option<Stamp>
 }
 
 /// Appends the text of the optional timestamp.
-/// Steps: at most 16 digits. Memory: may answer want of memory, only where the room is short. By: `full`; read off.
+/// Steps: at most 16 digits. Memory: may answer want of memory, only where the room is short. By: `added`; read off.
 pub fn push_stamp(out: &mut Vec<u8>, stamp: Option<Stamp>) -> Result<(), NoMemory>
-    ensures ok { OnOk result (out.new.items ≡ out.old.items ++ stamp_text stamp) }
+    ensures added { Appends out.old out.new result (stamp_text stamp) }
     ensures err { OnErr result (out.new.items ≡ out.old.items) }
-    ensures full { let text = stamp_text stamp in
-        OnErr result (vec_capacity out.old < vec_len out.old + length text) }
 {
     match stamp {
         None => Ok(out.push(b'-')?),
