@@ -7,6 +7,7 @@ mod LargestLemmas
 pub mod LogLemmas
 mod MakingLemmas
 mod QuickLemmas
+mod RangeLemmas
 mod ReportLemmas
 mod RestingLemmas
 mod StepLemmas

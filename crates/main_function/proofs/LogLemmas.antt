@@ -10,6 +10,7 @@ module _ {C L : Type 0} {m : Manager C L} where
     none_taken = mine.none_taken;
     offered_is = mine.offered_is;
     items_within = mine.items_within;
+    admitted = mine.admitted;
     totals_are = mine.totals_are;
     events_are = mine.events_are;
     largest_is = mine.largest_is;

@@ -1,5 +1,5 @@
 -- A manager that has just been made.
-use Rattle.main_function.proofs.Names.{◌≡◌, ℕ, ◌≤◌, None, List, [], length, sym, ap, ◌∙◌, arith, common_steps, length-map, length-replicate, All-nil, Turn, Parts, AllAdmitted, Buffer, spec_sizes, givers_of, IsHeld, IsBuilt, IsNewManager, largest_size, to_give_back, IsNewMaking, sizes_of, Desk, Pass, Shared, at_length, there, rings_have, or_at, Manager, ClassSpec, RiseFrom}
+use Rattle.main_function.proofs.Names.{◌≡◌, ℕ, ◌≤◌, None, List, [], length, sym, ap, ◌∙◌, arith, common_steps, length-map, length-replicate, All-nil, Turn, Parts, AllAdmitted, Buffer, spec_sizes, givers_of, AdmitsItem, IsHeld, IsBuilt, IsNewManager, largest_size, to_give_back, IsNewMaking, sizes_of, Desk, Pass, Shared, at_length, there, rings_have, or_at, Manager, ClassSpec, RiseFrom}
 use Rattle.main_function.proofs.LargestLemmas.{rise_above}
 use Rattle.buffer_classes.specs.declared.class.Class.{Class}
 
@@ -13,6 +13,7 @@ module _ {C L : Type 0} (stands : C → Parts → List Turn → Type 0) (events 
       let sizes : sizes_of shared ≡ spec_sizes config.classes = making.is_shared.sizes_are ∙ making.is_config.sizes in
       let given : AllAdmitted (λ size. 1 ≤ size) (sizes_of shared) = rw sizes (rise_above 0 (spec_sizes config.classes) rise) in
       let held = All-nil (IsHeld (sizes_of shared)) in
+      let admitted = All-nil (AdmitsItem shared.terms) in
       let many = length-map config.classes (λ (spec : ClassSpec). spec.size) in
       let all : length (givers_of m.desk.givers) ≡ length config.classes =
       grind (arith, making.is_desk.givers.all, sizes, many, length-map shared.classes.classes.items (λ (class : Class). class.size)) in
@@ -30,7 +31,7 @@ module _ {C L : Type 0} (stands : C → Parts → List Turn → Type 0) (events 
               let new = making.givers_are i spec.0 giver spec.1 at in
               (new.number_is ∙ ap (λ spec. spec.number) (sym (or_at config.classes i _ spec.0 spec.1)), new.untouched.made_is));
         };
-        is_manager = grind (arith, common_steps, making, built, none_taken, sizes, given, is, are, held, none, few, short);
+        is_manager = grind (arith, common_steps, making, built, none_taken, sizes, given, is, are, held, admitted, none, few, short);
         stands_for_none = grind (arith, common_steps, making.untouched, built, fresh);
         passes_are = record {
           all = making.all_made ∙ sym (ap length making.untouched.back_is ∙ length-replicate config.callers None);

@@ -9,7 +9,7 @@ use Rattle.filter_chain.proofs.ParcelLemmas.{all_parcels_of, parcels_keep}
 use Rattle.filter_chain.proofs.RoomLemmas.{most_grows}
 
 module _ {C L : Type 0} {events : C → ℕ} {kept : C → List Buffer} {shared : Shared} {m : Manager C L} (mine : IsManagerOf events kept shared m) where
-  within : AllAdmitted (λ size. size ≤ m.largest) (term_sizes shared.terms)
+  pub within : AllAdmitted (λ size. size ≤ m.largest) (term_sizes shared.terms)
   within = subst (AllAdmitted (λ size. size ≤ m.largest)) mine.desk_is.is_shared.sizes_are (rw mine.largest_is (largest_admits 0 (sizes_of shared)))
 
   given : AllAdmitted (λ size. 1 ≤ size) (term_sizes shared.terms)

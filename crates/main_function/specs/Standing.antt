@@ -3,7 +3,7 @@ use Rattle.std.specs.Prelude.{◌≡◌, ℕ, ◌+◌, ◌-◌, ◌≤◌, ◌^�
 use mathlib.Core.Option.{some}
 use lib.ListN.{get_elem?}
 use Rattle.std.specs.List.{All}
-use Rattle.main_function.specs.Names.{Output, room_of, Shared, Parts, queue_positions, last_tick, most_sent, Pass, Turn, DeskMemo, IsDeskOf, desk_memo, to_give_back, IsPassOf, pass_memo, sizes_of}
+use Rattle.main_function.specs.Names.{Output, room_of, Shared, Parts, queue_positions, last_tick, most_sent, Pass, Turn, AdmitsItem, DeskMemo, IsDeskOf, desk_memo, to_give_back, IsPassOf, pass_memo, sizes_of}
 use Rattle.permit_ring.specs.Hands.{AllAdmitted}
 use Rattle.buffer_classes.specs.Buffers.{Buffer}
 use Rattle.chain_spec.specs.Chain.{held_count}
@@ -101,6 +101,7 @@ module _ {C L : Type 0} where
     pub none_taken : to_give_back m.desk ≡ 0
     pub offered_is : (desk_memo m.desk).offered ≡ m.positions + length (desk_memo m.desk).notes
     pub items_within : length (desk_memo m.desk).notes ≤ 2 ^ 45
+    pub admitted : All (AdmitsItem shared.terms) (desk_memo m.desk).notes
     pub totals_are : AreTotals (desk_memo m.desk) m.totals
     pub events_are : events m.chain ≡ shared.terms.events
     pub largest_is : m.largest ≡ largest_size (sizes_of shared)

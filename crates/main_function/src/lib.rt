@@ -14,7 +14,7 @@ mod rest;
 mod resting;
 mod taking;
 
-pub use laws::there_is_one_turn;
+pub use laws::{a_turn_is_in_range, there_is_one_turn};
 pub use making::{Made, make};
 pub use manager::Manager;
 pub use rest::{HasPass, RestLog, Totals, TurnFault};

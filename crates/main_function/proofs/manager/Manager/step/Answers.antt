@@ -1,5 +1,6 @@
-use Rattle.main_function.proofs.Names.{List, Turn, Parts, Stands, AllOf, GaveBack, givers_of, rules, refl, ap, arith, common_steps, TurnHead, turn_by, DeskMemo, desk_memo, MakesTurn, held, item_of, items_of, length-map, ◌∙◌, gave_of, only_reaps}
+use Rattle.main_function.proofs.Names.{List, Turn, Parts, Stands, AllOf, GaveBack, givers_of, rules, refl, ap, arith, common_steps, TurnHead, turn_by, AdmitsItem, DeskMemo, desk_memo, MakesTurn, held, item_of, items_of, length-map, ◌∙◌, gave_of, only_reaps}
 use Rattle.ids_types.specs.{entry_by}
+use Rattle.std.proofs.lemmas.List.Elements.{All-append}
 use Rattle.report_queue.proofs.ClosingLemmas.{taken_on}
 use Rattle.main_function.proofs.QuickLemmas.{turn_is_quick}
 use Rattle.main_function.proofs.ReportLemmas.{offered_more, totals_more, turn_adds}
@@ -61,6 +62,7 @@ returns g c =
         none_taken = c.give_back.ensures.places.counts;
         offered_is = offered_more _ _ _ _ _ makes mine.offered_is;
         items_within = search rules;
+        admitted = rw (turn_adds _ _ _ _ _ makes).notes_are (All-append (AdmitsItem c.args.shared.now.terms) _ _ mine.admitted took.admitted);
         totals_are = totals_more _ _ _ _ _ makes _ _ mine.totals_are (search (rules, c.with-self.ensures.entries)) c.with-self.ensures.lost_events c.with-self.ensures.lost_contexts;
         events_are = c.judge.ensures.events ∙ mine.events_are;
         largest_is = mine.largest_is;
