@@ -1,4 +1,1 @@
-pub mod AccountingLemmas
-pub mod HearingLemmas
-pub mod Names
-pub mod TurnsLemmas
+pub mod Lemmas

@@ -1,7 +1,7 @@
 -- The explained journal: each line of a journal, with what became of its item, and the accounts of the events.
 -- Source: the text formats of this project (docs/FORMATS.md).
-use Rattle.std.specs.Prelude.{◌≡◌, ℕ, ◌==◌, ◌++◌, ◌∷◌, Bool, true, false, List, [], codes, decimal, filter, length, map, Option, Some, None, reverse, if◌then◌else◌}
-use Rattle.ids_types.specs.Turns.{Turn, entries_of}
+use Rattle.std.specs.Prelude.{◌≡◌, ℕ, ◌==◌, ◌++◌, ◌∷◌, Bool, true, false, List, [], codes, decimal, filter, length, map, Option, Some, None, reverse, option_to_list, if◌then◌else◌}
+use Rattle.ids_types.specs.{Turn, entries_of}
 use Rattle.ids_types.specs.declared.entry.Act.{Act}
 use Rattle.ids_types.specs.declared.entry.Act.TheVariants.{Report}
 use Rattle.ids_types.specs.declared.entry.Carried.TheVariants.{Missing}
@@ -10,7 +10,6 @@ use Rattle.ids_config.specs.Parts.{Parts, event_at, internal_of}
 use Rattle.chain_spec.specs.{account_of, events_in, Fate, at_mode, at_block, at_nth, in_window, at_threshold, unsent, at_rate, at_traffic, let_out, Ending, ending_at, is_stored, heads_of, Moment, act_moment, closings, head_moment, moments, with_all}
 use Rattle.chain_spec.specs.declared.account.Account.{Account}
 use Rattle.text_spec.specs.{Told, begins, enters, loses, line_for, absent, space, text_of}
-use Rattle.chain_endings.specs.Hearing.{endings_along}
 
 -- a word after a space
 abbrev pub field : List ℕ → List ℕ
@@ -62,6 +61,12 @@ entry_lines config tick before (entry ∷ entries) =
     let moment = act_moment tick entry.act in
     (line_for (enters entry) ++ ended_fields config (ending_at config before moment))
     ∷ entry_lines config tick (moment ∷ before) entries
+
+-- the endings at moments that come one after another, after these
+abbrev pub endings_along : Parts → List Moment → List Moment → List Ending
+endings_along config before [] = []
+endings_along config before (moment ∷ rest) =
+    option_to_list (ending_at config before moment) ++ endings_along config (moment ∷ before) rest
 
 -- the moments of a turn before its entries: windows close, and the internal events come
 abbrev pub opening : Parts → Turn → List Moment
@@ -118,11 +123,9 @@ account_line config turns event =
 
 -- ---- the text
 
--- the turns with what became of each item, the losses, and an account for each event
-abbrev pub explained_lines : Parts → Told → List (List ℕ)
-explained_lines config told =
+-- the text: the turns with what became of each item, the losses, and an account for each event
+abbrev pub explained_text : Parts → Told → List ℕ
+explained_text config told = text_of (
     turns_lines config [] told.turns ++ map (λ loss. line_for (loses loss)) told.losses
     ++ map (account_line config told.turns) (events_in config)
-
-abbrev pub explained_text : Parts → Told → List ℕ
-explained_text config told = text_of (explained_lines config told)
+    )

@@ -1,19 +1,16 @@
--- Endings in the order of time, as a listener hears them.
-use Rattle.std.specs.Prelude.{◌≡◌, ℕ, ◌++◌, Bool, true, false, List, [], ◌∷◌, map, None, option_to_list, reverse}
+-- Endings in the order of time, as a listener hears them, and accounts as the code keeps them.
+use Rattle.std.specs.Prelude.{◌≡◌, ℕ, ◌++◌, Bool, true, false, List, [], ◌∷◌, map, None, option_to_list, reverse, ◌≤◌, ◌<◌, length, filter, slice_index_or}
 use Rattle.std.proofs.Common.{ap, sym, ◌∙◌}
-use Rattle.ids_types.specs.Turns.{Turn}
+use Rattle.ids_types.specs.{Turn}
 use Rattle.ids_types.specs.declared.entry.Act.{Act}
 use Rattle.ids_types.specs.declared.entry.Act.TheVariants.{Report}
+use Rattle.ids_types.specs.declared.entry.Entry.{Entry}
 use Rattle.ids_config.specs.Parts.{Parts}
-use Rattle.chain_spec.specs.{Ending, ending_at, endings, Moment, act_moment, turn_moments}
+use Rattle.chain_spec.specs.{Ending, ending_at, endings, Moment, act_moment, turn_moments, nothing, tally, is_of}
 use Rattle.event_chain.specs.Fates.{bare, ending_of}
-use Rattle.chain_endings.specs.declared.listener.Listener.{Listener}
-
--- the endings at moments that come one after another, after these
-abbrev pub endings_along : Parts → List Moment → List Moment → List Ending
-endings_along config before [] = []
-endings_along config before (moment ∷ rest) =
-    option_to_list (ending_at config before moment) ++ endings_along config (moment ∷ before) rest
+use Rattle.chain_endings.specs.ExplainedText.{endings_along, is_missing}
+use Rattle.chain_endings.specs.declared.explaining.Listener.{Listener}
+use Rattle.chain_spec.specs.declared.account.Account.{Account}
 
 -- the endings at the moments of a turn after these
 abbrev pub turn_endings : Parts → List Moment → Turn → List Ending
@@ -41,3 +38,36 @@ pub silent : (listener : Listener) (config : Parts) (before : List Moment) (mome
     → ending_at config before moment ≡ None → Hears listener config (moment ∷ before)
 silent listener config before moment hears none kept =
     hears kept ∙ ap (λ o. reverse (map bare (option_to_list o ++ endings config before))) (sym none)
+
+-- ---- accounts as the code keeps them
+
+-- no number of items is above the first number, none of fates above the second, and none of what is stored above
+-- the third
+pub record IsAtMost (items fates kept : ℕ) (account : Account) : Type 0 where
+  pub came : account.came ≤ items
+  pub closed : account.closed ≤ items
+  pub mode : account.mode ≤ fates
+  pub block : account.block ≤ fates
+  pub nth : account.nth ≤ fates
+  pub aggregate : account.aggregate ≤ fates
+  pub threshold : account.threshold ≤ fates
+  pub unsent : account.unsent ≤ fates
+  pub rate : account.rate ≤ fates
+  pub traffic : account.traffic ≤ fates
+  pub sent : account.sent ≤ fates
+  pub waiting : account.waiting ≤ fates
+  pub stored : account.stored ≤ kept
+
+-- the account of event k
+abbrev pub kept_at : List Account → ℕ → Account
+kept_at accounts k = slice_index_or accounts k nothing
+
+-- the accounts, one for each event, are those of these endings, the newest of which stands first
+pub record AreOf (config : Parts) (endings : List Ending) (accounts : List Account) : Type 0 where
+  pub events : length accounts ≡ length config.events
+  pub each : (k : ℕ) → k < length accounts → kept_at accounts k ≡ tally config (filter (λ one. is_of k one.item) endings)
+
+-- the numbers, one for each event, are those of the reports among these entries that lost their context data
+abbrev pub CountsMissing : List (Entry (List ℕ)) → List ℕ → Type 0
+CountsMissing entries missing = (k : ℕ) → k < length missing
+    → slice_index_or missing k 0 ≡ length (filter (λ entry. is_missing k entry.act) entries)

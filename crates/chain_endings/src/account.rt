@@ -1,18 +1,23 @@
-//! The account of an event.
+//! The account of each event, and their lines.
 
-ghost use Rattle.std.specs.Prelude.{◌≡◌, ◌<◌, ◌^◌, ℕ, map, reverse, length, IfOk, not, ◌==◌, ◌&&◌, if◌then◌else◌};
+ghost use Rattle.std.specs.Prelude.{◌≡◌, ◌<◌, ◌^◌, ℕ, map, reverse, length, IfOk, not, ◌==◌, ◌&&◌, if◌then◌else◌, ◌+◌, ◌++◌, ◌∷◌, [], List, slice_index_or, OnOk, decimal, codes};
 ghost use Rattle.ids_config.specs.Parts.{event_at};
-ghost use Rattle.chain_spec.specs.{nothing, with_one, with_fate, with_stored, is_stored};
+ghost use Rattle.chain_spec.specs.{nothing, with_one, with_fate, with_stored, is_stored, events_in, moments};
 ghost use Rattle.event_chain.specs.Fates.{ending_of, fate_of};
-ghost use Rattle.chain_endings.specs.Accounting.{AreOf, IsAtMost, kept_at};
+ghost use Rattle.chain_endings.specs.{AreOf, IsAtMost, kept_at, CountsMissing, account_fields, account_line, field, is_missing, told_in};
+ghost use Rattle.ids_types.specs.declared.entry.Entry.{Entry};
+ghost use Rattle.ids_types.specs.{entries_of, plain_entry};
+ghost use Rattle.text_spec.specs.Words.{line_feed, text_of};
 
+use crate::lines::push_numbers;
 use chain_spec::Account;
 use event_chain::{Ending, Fate};
 use filter_gate::Cause;
-use ids_config::ConfigParts;
-use ids_types::{EventIndex, NoMemory};
+use ids_config::{ConfigParts, EventParts};
+use ids_types::{Act, Carried, Entry, EntryWalk, EventIndex, History, NoMemory, Plain};
 use limits::Admit;
 use std::alloc::Global;
+use text_spec::push_field;
 
 /// The account of no items.
 fn nothing() -> Account
@@ -43,7 +48,9 @@ fn add(account: &mut Account, ending: &Ending, stored: bool)
 {
     add_one(account, ending.by_window);
     add_fate(account, ending.fate);
-    add_stored(account, stored);
+    if stored {
+        account.stored += 1;
+    }
 }
 
 /// Adds an item that a window gave, which closed by that, or one that came.
@@ -78,16 +85,6 @@ fn add_fate(account: &mut Account, fate: Fate)
         Fate::Qualified(Some(Admit::Rate)) => account.rate += 1,
         Fate::Qualified(Some(Admit::Traffic)) => account.traffic += 1,
         Fate::Qualified(Some(Admit::Sent)) => account.sent += 1,
-    }
-}
-
-/// Adds one that is stored, where it is.
-fn add_stored(account: &mut Account, stored: bool)
-    requires { account.old.stored < 2 ^ 63 }
-    ensures { account.new ≡ with_stored stored account.old }
-{
-    if stored {
-        account.stored += 1;
     }
 }
 
@@ -138,5 +135,109 @@ fn add_to(accounts: &mut Vec<Account>, ending: &Ending, stored: bool)
     let event = usize::from(ending.event.0);
     if event < accounts.len() {
         add(&mut accounts[event], ending, stored);
+    }
+}
+
+/// Appends the account of each event as a line, where these are the endings of the history.
+pub(crate) fn push_accounts(
+    alloc: Global,
+    parts: &ConfigParts,
+    history: &History,
+    told: &[Ending],
+    out: &mut Vec<u8>,
+) -> Result<(), NoMemory>
+    requires { map ending_of told.now ≡ told_in parts.now (moments parts.now (reverse history.now.turns)) }
+    ensures { OnOk result (out.new.items ≡
+        out.old.items ++ text_of (map (account_line parts.now history.now.turns) (events_in parts.now))) }
+{
+    let accounts = accounts_of(alloc, parts, told)?;
+    let missing = missing_in(alloc, parts.events.len(), history)?;
+    for event in 0..parts.events.len() {
+        push_account(
+            out,
+            event,
+            &parts.events[event],
+            &accounts[event],
+            missing[event],
+        )?;
+    }
+    Ok(())
+}
+
+/// Appends the account of an event as a line.
+#[tactic(auto, using(std::proofs::Common::append_assoc))]
+fn push_account(
+    out: &mut Vec<u8>,
+    event: usize,
+    own: &EventParts,
+    account: &Account,
+    missing: u64,
+) -> Result<(), NoMemory>
+    ensures { OnOk result (out.new.items ≡ out.old.items
+        ++ (((codes "A" ++ field (decimal event) ++ field (decimal own.now.id) ++ field (decimal own.now.sensor))
+        ++ account_fields account.now missing) ++ line_feed ∷ [])) }
+{
+    push_names(out, event, own)?;
+    push_numbers(out, account, missing)?;
+    out.push(b'\n')?;
+    Ok(())
+}
+
+/// Appends `A EVENT ID SENSOR`.
+fn push_names(out: &mut Vec<u8>, event: usize, own: &EventParts) -> Result<(), NoMemory>
+    ensures { OnOk result (out.new.items ≡ out.old.items
+        ++ (codes "A" ++ field (decimal event) ++ field (decimal own.now.id) ++ field (decimal own.now.sensor))) }
+{
+    out.push(b'A')?;
+    push_field(out, event as u64)?;
+    push_field(out, own.id)?;
+    push_field(out, own.sensor)
+}
+
+/// How many reports of each event lost their context data.
+fn missing_in(alloc: Global, events: usize, history: &History) -> Result<Vec<u64>, NoMemory>
+    ensures { IfOk result (λ missing. (length missing.items ≡ events) × CountsMissing (entries_of history.now.turns) missing.items) }
+{
+    // Names how many entries there are, so that the proof knows that they can be counted.
+    let _entries = history.total_entries();
+    let mut missing = vec![in alloc; 0; events]?;
+    let mut turns = history.walk();
+    while let Some((_, entries)) = turns.pop_front() {
+        count_all(entries, &mut missing);
+    }
+    Ok(missing)
+}
+
+/// Counts those of the entries that are reports whose context data are missing.
+fn count_all(entries: EntryWalk<'_>, missing: &mut Vec<u64>)
+    requires { (done : List (Entry (List ℕ))) × (length done + length entries < 2 ^ 64) × CountsMissing done missing.old.items }
+    ensures len { length missing.new.items ≡ length missing.old.items }
+    ensures counts { (done : List (Entry (List ℕ))) → CountsMissing done missing.old.items
+        → CountsMissing (done ++ entries.entry) missing.new.items }
+{
+    let mut rest = entries;
+    while let Some(entry) = rest.pop_front() {
+        count_missing(&entry, missing);
+    }
+}
+
+/// Counts the entry where it is a report whose context data are missing.
+fn count_missing(entry: &Entry<Plain<'_>>, missing: &mut Vec<u64>)
+    requires { (k : ℕ) → k < length missing.old.items → slice_index_or missing.old.items k 0 + 1 < 2 ^ 64 }
+    ensures len { length missing.new.items ≡ length missing.old.items }
+    ensures each { (k : ℕ) → k < length missing.old.items → slice_index_or missing.new.items k 0
+        ≡ (if is_missing k (plain_entry entry.now).act then slice_index_or missing.old.items k 0 + 1 else slice_index_or missing.old.items k 0) }
+{
+    let Act::Report {
+        event,
+        context: Carried::Missing(_),
+        ..
+    } = &entry.act
+    else {
+        return;
+    };
+    let event = usize::from(event.0);
+    if event < missing.len() {
+        missing[event] += 1;
     }
 }

@@ -1,21 +1,65 @@
-//! The text of `explain`: the turns of a history with the fate of each item, its losses, and the accounts.
+//! The text of `explain`: the turns of a history with the fate of each item, its losses, and the accounts; and the
+//! witness that hears what became of each item.
 
-ghost use Rattle.std.specs.Prelude.{◌≡◌, ◌++◌, [], length, reverse, IfOk, OnOk};
+ghost use Rattle.std.specs.Prelude.{◌≡◌, ◌++◌, [], false, List, length, map, reverse, IfOk, OnOk};
+ghost use Rattle.ids_config.specs.Parts.{Parts};
+ghost use Rattle.chain_spec.specs.Moments.{Moment};
 ghost use Rattle.chain_plain.specs.Recorded.{CanFold};
-ghost use Rattle.event_chain.specs.Standing.{StandsWatched};
+ghost use Rattle.event_chain.specs.{StandsWatched, ending_of};
 ghost use Rattle.journal.specs.Answers.{told};
 ghost use Rattle.text_spec.specs.Words.{text_of};
-ghost use Rattle.chain_endings.specs.{explained_text, turns_lines, Hears};
+ghost use Rattle.chain_endings.specs.{explained_text, silent, told_in, turns_lines, Hears};
 
-use crate::accounts::push_accounts;
-use crate::listener::Listener;
+use crate::account::push_accounts;
 use crate::turns::push_turn;
 use chain_plain::Desk;
-use event_chain::EventChain;
+use event_chain::{Ending, EventChain, Witness};
 use ids_config::Config;
 use ids_types::{History, Loss, NoMemory, Plain};
 use journal::push_loss;
 use std::alloc::Global;
+
+/// Hears what became of each item, and says so where it could not keep it.
+#[derive(Drop)]
+pub(crate) struct Listener {
+    heard: Vec<Ending>,
+    lost: bool,
+}
+
+impl Listener {
+    /// One who heard nothing yet.
+    pub(crate) fn make(alloc: Global) -> Listener
+        ensures { (config : Parts) → Hears result config [] }
+    {
+        Listener {
+            heard: Vec::new(alloc),
+            lost: false,
+        }
+    }
+
+    /// All that it heard, the first of it first.
+    pub(crate) fn heard(&self) -> Result<&[Ending], NoMemory>
+        ensures { IfOk result (λ heard. (config : Parts) (moments : List Moment) → Hears self.now config moments →
+            map ending_of heard.now ≡ told_in config moments) }
+    {
+        if self.lost {
+            return Err(NoMemory);
+        }
+        Ok(&self.heard)
+    }
+}
+
+impl Witness for Listener {
+    ghost knows = { Hears };
+
+    fn tell(&mut self, ending: Ending) {
+        if self.heard.push(ending).is_err() {
+            self.lost = true;
+        }
+    }
+
+    ghost silent = { silent };
+}
 
 /// The journal of a history and its losses, with what became of each item, and an account for each event.
 /// Steps: for each turn one `Chain::judge` and its lines; what was heard once more, for the accounts; and the entries

@@ -7,10 +7,8 @@
 #![tactic(auto)]
 
 mod account;
-mod accounts;
 mod explaining;
 mod lines;
-mod listener;
 mod turns;
 
 pub use explaining::explain;

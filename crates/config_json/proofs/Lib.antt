@@ -1,4 +1,2 @@
-pub mod Names
 pub mod PrintedLemmas
-mod ShapeLemmas
 mod WorkedTexts

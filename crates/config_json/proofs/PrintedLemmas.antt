@@ -1,5 +1,16 @@
 -- A printed configuration is read back: it has no fault of shape and its own parts, nests little, and has no number with a fraction.
-use Rattle.config_json.proofs.Names.{◌≡◌, ◌≤◌, ℕ, suc, List, [], ◌∷◌, map, Bool, true, false, ◌||◌, Option, Some, None, option_map, unwrap_or, is_some, Ok, codes, refl, arith, Result, ⊤, list_all, Data, depth, items_depth, as_object, max_depth, items_of, Event, Parts, each, whole_in, elements, is_null, is_whole, if_object, last_named, window_in, aggregate_in, class_in, state_in, whole, optional, context_name, class_tree, window_tree, aggregate_tree, object_shape, class_shape, aggregate_shape, event_shape_at}
+pub use Rattle.std.proofs.Common.{◌≡◌, ◌≤◌, ℕ, suc, List, [], ◌∷◌, map, Bool, true, false, ◌||◌, Option, Some, None, option_map, unwrap_or, is_some, Ok, refl, arith, bytes_eq, string_bytes, sym, ◌++◌, drop}
+pub use Rattle.std.proofs.lemmas.Str.{IsUtf8-from_is_utf8, is_utf8-from_IsUtf8, IsUtf8-string_bytes}
+pub use Rattle.std.specs.List.{list_all, list_any}
+pub use Rattle.std.specs.Prelude.{codes, Result, ⊤}
+pub use Rattle.ids_config.specs.Parts.{Event, Parts, plain_event, class_of}
+pub use Rattle.ids_config.specs.Steps.{each}
+pub use Rattle.serde_json.specs.Data.{Data, depth, items_depth}
+pub use Rattle.serde_json.specs.Find.{as_object}
+pub use Rattle.serde_json.specs.Read.{max_depth}
+pub use Rattle.serde_json.specs.View.{items_of, view, items_view, members_view}
+pub use Rattle.config_json.specs.Members.{whole_in, elements, is_null, is_whole}
+pub use Rattle.config_json.specs.{if_object, last_named, window_in, aggregate_in, class_in, state_in, event_in, whole, optional, context_name, class_tree, window_tree, aggregate_tree, config_text, event_tree, object_shape, class_shape, aggregate_shape, event_shape_at, names_of, is_named, parts_in, config_tree, event_shape, config_shape, window_table}
 use Rattle.serde_json.specs.Written.{has_float, items_have_float}
 use Rattle.ids_types.specs.declared.mode.Mode.{Mode}
 use Rattle.ids_types.specs.declared.mode.Mode.TheVariants as modes
@@ -8,7 +19,16 @@ use Rattle.ids_config.specs.declared.fault.ConfigFault.{ConfigFault}
 use Rattle.ids_config.specs.declared.parts.Aggregate.{Aggregate}
 use Rattle.ids_config.specs.declared.parts.Window.{Window}
 use Rattle.config_json.specs.declared.tables.Form.TheVariants as forms
-use Rattle.config_json.specs.{event_in, parts_in, event_tree, config_tree, event_shape, config_shape, window_table}
+use Rattle.std.specs.Map.{keys_of}
+use Rattle.std.proofs.lemmas.List.Folds.{list_all-map}
+use Rattle.std.proofs.lemmas.Simd.{map-map}
+use Rattle.serde_json.proofs.Views.{Entry}
+use Rattle.serde_json.specs.declared.value.Value.{Value}
+use Rattle.config_json.specs.declared.tables.MemberRow.{MemberRow}
+use Rattle.config_json.specs.Shape.{row_of, is_among, members_shape}
+
+-- which bytes are text
+pub ruleset utf8 = (IsUtf8-from_is_utf8, is_utf8-from_IsUtf8, IsUtf8-string_bytes)
 
 -- ---- names
 
@@ -112,3 +132,36 @@ config_printed config =
     let lost_contexts = index_printed config.lost_contexts in
     let limited = index_printed config.limited in
     grind (arith, classes, rate, traffic, events, lost_events, lost_contexts, limited)
+
+-- ---- the members of an object as its reader meets them: keys, and rows of a constant
+
+-- all trees of a list are whole numbers
+pub all_elements : (values : List Value)
+    → list_all is_whole (elements (items_view values)) ≡ list_all (λ v. is_whole (view v)) values
+all_elements values = rw (elements_back (map view values)) (list_all-map is_whole view values)
+
+-- the states of a list
+pub states_of : (values : List Value)
+    → map (λ value. state_in (view value)) values ≡ map state_in (map view values)
+states_of values = sym (map-map state_in view values)
+
+-- a name among the rows
+any_row : (key : List ℕ) (rows : List MemberRow)
+    → is_named (map row_of rows) key ≡ list_any (λ row. bytes_eq key row.name.now) rows
+any_row key [] = refl
+any_row key (row ∷ rows) = rw (any_row key rows) refl
+
+-- the names of members are the keys of the map
+named_members : (rows : List MemberRow) (entries : List Entry)
+    → list_all (is_named (map row_of rows)) (names_of (members_view entries))
+    ≡ list_all (is_among rows) (keys_of entries)
+named_members rows [] = refl
+named_members rows (entry ∷ entries) =
+    rw (any_row (string_bytes entry.0) rows, named_members rows entries) refl
+
+-- the search of an object that has these members
+pub object_members : (rows : List MemberRow) (tree : Data) (entries : List Entry)
+    → Some (members_view entries) ≡ as_object tree
+    → object_shape (map row_of rows) tree ≡ members_shape rows tree (keys_of entries)
+object_members rows tree entries e =
+    simp (sym e, named_members rows entries, list_all-map)

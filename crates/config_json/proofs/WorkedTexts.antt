@@ -1,5 +1,5 @@
 -- The text that docs/FORMATS.md shows, so that a wrong rule in the definitions does not check.
-use Rattle.config_json.proofs.Names.{◌≡◌, [], ◌∷◌, refl, codes, Parts, plain_event, config_text}
+use Rattle.config_json.proofs.PrintedLemmas.{◌≡◌, [], ◌∷◌, refl, codes, Parts, plain_event, config_text}
 use Rattle.std.specs.Fmt.{digits}
 use Rattle.serde_json.proofs.OnLiterals.{serde_json_on_literals}
 use Rattle.ids_config.proofs.Plain.{instance_18}

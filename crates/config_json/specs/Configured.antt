@@ -22,13 +22,9 @@ config_in tree = config_shape tree >> checked (parts_in tree)
 abbrev pub tree_of : List ℕ → Option Data
 tree_of bytes = if is_utf8 bytes then read bytes else None
 
--- the fault of bytes that are no JSON text
-abbrev pub no_tree : ConfigFault
-no_tree = record { number = 1; place = places.Top }
-
--- the configuration of the tree, where there is one
+-- the configuration of the tree; where there is none, the fault of bytes that are no JSON text
 abbrev pub config_of : Option Data → Result Parts ConfigFault
-config_of None = Err no_tree
+config_of None = Err (record { number = 1; place = places.Top })
 config_of (Some tree) = config_in tree
 
 -- the configuration that bytes are the text of, or their first fault

@@ -1,6 +1,6 @@
 -- The search for faults of shape, in the order of the walk. The first fault found is the answer.
 -- Source: the configuration format of this project (docs/CONFIGURATION.md).
-use Rattle.std.specs.Prelude.{ℕ, List, [], ◌∷◌, Bool, true, not, ◌||◌, Option, option_map, unwrap_or, is_some, bytes_eq, codes, Result, Ok, ⊤}
+use Rattle.std.specs.Prelude.{ℕ, List, [], ◌∷◌, Bool, true, not, ◌||◌, Option, option_map, unwrap_or, is_some, bytes_eq, codes, Result, Ok, ⊤, string_bytes, String}
 use Rattle.std.specs.List.{list_any, list_all}
 use Rattle.serde_json.specs.Data.{Data, Members, no_members, member}
 use Rattle.serde_json.specs.Find.{get, as_object}
@@ -9,9 +9,10 @@ use Rattle.ids_config.specs.declared.fault.ConfigFault.{ConfigFault}
 use Rattle.ids_config.specs.declared.fault.ConfigPlace.TheVariants as places
 use Rattle.ids_config.specs.Steps.{◌>>◌, asks, at, each, capped}
 use Rattle.config_json.specs.declared.tables.Form.{Form}
-use Rattle.config_json.specs.Kinds.{has_kind}
-use Rattle.config_json.specs.Members.{text_at, list_at, object_at, form_at, form_of, last_named}
+use Rattle.config_json.specs.Members.{has_kind, text_at, list_at, object_at, form_at, form_of, last_named}
 use Rattle.config_json.specs.Tables.{Row, top_table, class_table, window_table, event_table, aggregate_table, internal_table}
+use Rattle.std.specs.declared.alloc.Global.{Global}
+use Rattle.config_json.specs.declared.tables.MemberRow.{MemberRow}
 
 -- ---- one object
 
@@ -87,3 +88,20 @@ config_shape tree =
     >> at places.Top (part_shape (object_shape (window_table (codes "bytes"))) (codes "traffic") tree)
     >> each (event_shape_at (form_of tree)) 0 (list_at (codes "events") tree)
     >> at places.Top (part_shape (object_shape internal_table) (codes "internal") tree)
+
+-- ---- the search of one object in the words of its reader, for private clauses
+
+-- the row as data
+abbrev pub row_of : MemberRow → Row
+row_of row = record { name = row.name.now; kind = row.kind; required = row.required }
+
+-- a row has the key as its name
+abbrev pub is_among : List MemberRow → String Global → Bool
+is_among rows key = list_any (λ row. bytes_eq (string_bytes key) row.name.now) rows
+
+-- the steps of the search of an object with these keys
+abbrev pub members_shape : List MemberRow → Data → List (String Global) → Result ⊤ ℕ
+members_shape rows tree keys =
+    asks 3 (list_all (is_among rows) keys)
+    >> asks 4 (list_all (λ row. is_there tree (row_of row)) rows)
+    >> asks 5 (list_all (λ row. is_of_kind tree (row_of row)) rows)

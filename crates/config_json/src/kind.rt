@@ -4,7 +4,7 @@ ghost use Rattle.std.specs.Prelude.{◌≡◌, length, is_some};
 ghost use Rattle.std.specs.List.{list_all};
 ghost use Rattle.serde_json.specs.Find.{as_null};
 ghost use Rattle.serde_json.specs.View.{view, items_view};
-ghost use Rattle.config_json.specs.Kinds.{has_kind as of_kind, is_whole as whole, are_wholes as wholes};
+ghost use Rattle.config_json.specs.Members.{has_kind as of_kind, is_whole as whole, are_wholes as wholes};
 
 use serde_json::Value;
 
@@ -42,7 +42,7 @@ pub(crate) fn has_kind(kind: Kind, value: &Value) -> bool
 }
 
 /// A list of whole numbers.
-#[tactic(auto, using(crate::proofs::ShapeLemmas::all_elements))]
+#[tactic(auto, using(crate::proofs::PrintedLemmas::all_elements))]
 fn are_wholes(value: &Value) -> bool
     ensures { result ≡ wholes (view value.now) }
 {

@@ -10,7 +10,6 @@
 
 mod fault;
 mod kind;
-mod members;
 mod parts;
 mod printing;
 mod reading;

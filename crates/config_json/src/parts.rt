@@ -1,11 +1,10 @@
-//! The parts of a configuration, each member's value or its default.
+//! The parts of a configuration, each member's value or its default; and the members of an object by their names.
 
-ghost use Rattle.std.specs.Prelude.{◌≡◌, map, IfOk};
+ghost use Rattle.std.specs.Prelude.{◌≡◌, map, option_map, IfOk};
 ghost use Rattle.serde_json.specs.View.{view};
 ghost use Rattle.ids_config.specs.Parts.{class_of};
-ghost use Rattle.config_json.specs.Members.{whole_or as whole_unless, truth_or as truth_unless, window_in, aggregate_in, class_in, state_in, event_in, internal_at, profile_in, form_of, parts_in};
+ghost use Rattle.config_json.specs.Members.{whole_or as whole_unless, truth_or as truth_unless, window_in, aggregate_in, class_in, state_in, event_in, internal_at, profile_in, form_of, parts_in, whole_at, text_at, list_at, object_at, form_at, last_named};
 
-use crate::members::{find_form, find_list, find_object, find_text, find_whole, last_of};
 use crate::tables::Form;
 use ids_config::{Aggregate, ConfigParts, EventParts, Window};
 use ids_types::Mode;
@@ -64,7 +63,7 @@ fn read_events(alloc: Global, values: &[Value]) -> Result<Vec<EventParts>, Alloc
     Ok(events)
 }
 
-#[tactic(auto, using(crate::proofs::ShapeLemmas::states_of), unfolding(crate::specs::Members::event_in))]
+#[tactic(auto, using(crate::proofs::PrintedLemmas::states_of), unfolding(crate::specs::Members::event_in))]
 fn read_event(alloc: Global, value: &Value) -> Result<EventParts, AllocError>
     ensures { IfOk result (λ event. event ≡ event_in (view value.now)) }
 {
@@ -135,4 +134,57 @@ fn truth_or(default: bool, value: &Value, name: &str) -> bool
     ensures { result ≡ truth_unless default name.now (view value.now) }
 {
     value.get(name).and_then(Value::as_bool).unwrap_or(default)
+}
+
+pub(crate) fn find_whole(value: &Value, name: &str) -> Option<u64>
+    ensures { result ≡ whole_at name.now (view value.now) }
+{
+    value.get(name).and_then(Value::as_u64)
+}
+
+pub(crate) fn find_text<'a>(value: &'a Value, name: &str) -> Option<&'a str>
+    ensures { option_map (λ text. text.now) result ≡ text_at name.now (view value.now) }
+{
+    value.get(name).and_then(Value::as_str)
+}
+
+/// The list of this name, empty where it is absent.
+#[tactic(auto, using(crate::proofs::PrintedLemmas::elements_back))]
+pub(crate) fn find_list<'a>(value: &'a Value, name: &str) -> &'a [Value]
+    ensures { map view result.now ≡ list_at name.now (view value.now) }
+{
+    match value.get(name).and_then(Value::as_array) {
+        Some(list) => list,
+        None => &[],
+    }
+}
+
+/// The object of this name, `None` where it is null or absent.
+pub(crate) fn find_object<'a>(value: &'a Value, name: &str) -> Option<&'a Value>
+    ensures { option_map (λ object. view object.now) result ≡ object_at name.now (view value.now) }
+{
+    let member = value.get(name)?;
+    if member.is_object() {
+        Some(member)
+    } else {
+        None
+    }
+}
+
+/// The form that the tree says it has, `None` where there is no such form.
+pub(crate) fn find_form(value: &Value) -> Option<Form>
+    ensures { result ≡ form_at (view value.now) }
+{
+    find_whole(value, "form").and_then(Form::numbered)
+}
+
+/// Whether an aggregation of this choice keeps the last context of a window.
+pub(crate) fn last_of(name: &str) -> Option<bool>
+    ensures { result ≡ last_named name.now }
+{
+    match name {
+        "FIRST" => Some(false),
+        "LAST" => Some(true),
+        _ => None,
+    }
 }

@@ -13,7 +13,7 @@ use std::alloc::{AllocError, Global};
 /// The text of a configuration in the second form, which `read` reads back as the same.
 /// Steps: the bytes of the text, and each member among those of its object: log. Memory: may answer want of memory.
 /// By: `text`; read off, but for serde_json's part.
-#[tactic(auto, using(crate::proofs::PrintedLemmas::config_printed, crate::proofs::Names::utf8))]
+#[tactic(auto, using(crate::proofs::PrintedLemmas::config_printed, crate::proofs::PrintedLemmas::utf8))]
 pub fn print(alloc: Global, config: &Config) -> Result<String, NoMemory>
     ensures text { IfOk result (λ text. string_bytes text ≡ config_text config.now) }
     ensures reads_back { IfOk result (λ text. configuration (string_bytes text) ≡ Ok config.now) }
@@ -59,30 +59,14 @@ fn put_inner(
     ensures { OnOk result (members_view members.new.entries
         ≡ with_members (inner_members parts.now) (members_view members.old.entries)) }
 {
-    put(
-        members,
-        alloc,
-        "classes",
-        tree_of_classes(alloc, &parts.classes)?,
-    )?;
-    put(
-        members,
-        alloc,
-        "rate",
-        tree_of_window(alloc, "events", parts.rate)?,
-    )?;
-    put(
-        members,
-        alloc,
-        "traffic",
-        tree_of_window(alloc, "bytes", parts.traffic)?,
-    )?;
-    put(
-        members,
-        alloc,
-        "events",
-        tree_of_events(alloc, &parts.events)?,
-    )?;
+    let classes = tree_of_classes(alloc, &parts.classes)?;
+    put(members, alloc, "classes", classes)?;
+    let rate = tree_of_window(alloc, "events", parts.rate)?;
+    put(members, alloc, "rate", rate)?;
+    let traffic = tree_of_window(alloc, "bytes", parts.traffic)?;
+    put(members, alloc, "traffic", traffic)?;
+    let events = tree_of_events(alloc, &parts.events)?;
+    put(members, alloc, "events", events)?;
     put(members, alloc, "internal", tree_of_internal(alloc, parts)?)
 }
 
@@ -173,18 +157,10 @@ fn put_filters(
 {
     put(members, alloc, "block", tree_of_block(alloc, &event.block)?)?;
     put(members, alloc, "nth", Value::from(event.nth))?;
-    put(
-        members,
-        alloc,
-        "aggregate",
-        tree_of_aggregate(alloc, event.aggregate)?,
-    )?;
-    put(
-        members,
-        alloc,
-        "threshold",
-        tree_of_window(alloc, "count", event.threshold)?,
-    )
+    let aggregate = tree_of_aggregate(alloc, event.aggregate)?;
+    put(members, alloc, "aggregate", aggregate)?;
+    let threshold = tree_of_window(alloc, "count", event.threshold)?;
+    put(members, alloc, "threshold", threshold)
 }
 
 /// Blocking states.

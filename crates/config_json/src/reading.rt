@@ -14,7 +14,7 @@ use std::alloc::Global;
 /// Steps: the bytes of the text, and each member among those of its object: log; a name is compared with at most 12
 /// rows. Memory: may answer want of memory (`JsonFault`). By: read off; serde_json's part by measurement
 /// (docs/SPEED.md).
-#[tactic(auto, using(crate::proofs::Names::utf8))]
+#[tactic(auto, using(crate::proofs::PrintedLemmas::utf8))]
 pub fn read(alloc: Global, bytes: &[u8]) -> Result<Config, JsonFault>
     ensures { Tells (configuration bytes.now) result }
 {

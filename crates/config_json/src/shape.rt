@@ -9,7 +9,7 @@ ghost use Rattle.ids_types.specs.ModeNames.{mode_named};
 ghost use Rattle.config_json.specs.{last_named, row_of, is_among as among, members_shape, object_shape, part_shape, class_shape, aggregate_shape, event_shape, event_shape_at, config_shape, is_there as there, is_of_kind as of_kind, is_known as known};
 
 use crate::kind::has_kind;
-use crate::members::{find_form, find_list, find_object, find_text, last_of};
+use crate::parts::{find_form, find_list, find_object, find_text, last_of};
 use crate::tables::{
     AGGREGATE, CLASS, Form, INTERNAL, MemberRow, RATE, THRESHOLD, TRAFFIC, event_rows, top_rows,
 };
@@ -92,7 +92,7 @@ fn check_part(value: &Value, name: &str, rows: &[MemberRow]) -> Result<(), u8>
 }
 
 /// An object with the members of the table.
-#[tactic(auto, using(crate::proofs::ShapeLemmas::object_members))]
+#[tactic(auto, using(crate::proofs::PrintedLemmas::object_members))]
 fn check_object(value: &Value, rows: &[MemberRow]) -> Result<(), u8>
     ensures { result ≡ object_shape (map row_of rows.now) (view value.now) }
 {

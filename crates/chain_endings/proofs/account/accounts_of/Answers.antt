@@ -1,6 +1,4 @@
-use Rattle.chain_endings.proofs.Names.{nothing, get_or-replicate, map_more, reverse-append, map, reverse, get_or, take, sym, ap, subst, ◌∙◌, arith, common_steps, rules, ending_of}
-use Rattle.chain_endings.specs.Accounting.{AreOf}
-use Rattle.chain_endings.proofs.AccountingLemmas.{accounts_few, accounts_more}
+use Rattle.chain_endings.proofs.Lemmas.{nothing, get_or-replicate, map_more, reverse-append, map, reverse, get_or, take, sym, ap, subst, ◌∙◌, arith, common_steps, rules, ending_of, AreOf, accounts_few, accounts_more}
 use Rattle.chain_endings.proofs.account.accounts_of.Goals as goal
 
 pub loop-ending-init : goal.loop-ending-init

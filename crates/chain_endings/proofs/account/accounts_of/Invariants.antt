@@ -1,5 +1,4 @@
-use Rattle.chain_endings.proofs.Names.{map, reverse, take, ending_of}
-use Rattle.chain_endings.specs.Accounting.{AreOf}
+use Rattle.chain_endings.proofs.Lemmas.{map, reverse, take, ending_of, AreOf}
 use Rattle.chain_endings.proofs.account.accounts_of.Given as goal
 
 -- the accounts are those of the first endings

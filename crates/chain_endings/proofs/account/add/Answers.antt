@@ -1,8 +1,5 @@
-use Rattle.chain_endings.proofs.Names.{suc, arith}
+use Rattle.chain_endings.proofs.Lemmas.{suc, arith}
 use Rattle.chain_endings.proofs.account.add.Goals as goal
 
 pub add_fate-requires : goal.add_fate-requires
 add_fate-requires c = (c.requires.0, suc c.requires.0, c.requires.1, grind (arith, c.add_one.ensures, c.requires.2))
-
-pub add_stored-requires : goal.add_stored-requires
-add_stored-requires c = grind (arith, c.add_fate.ensures, c.add_one.ensures, c.requires.2, c.requires.1)

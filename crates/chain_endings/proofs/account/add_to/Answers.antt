@@ -1,4 +1,4 @@
-use Rattle.chain_endings.proofs.Names.{nothing, get_or_default, arith, common_steps, elements}
+use Rattle.chain_endings.proofs.Lemmas.{nothing, get_or_default, arith, common_steps, elements}
 use Rattle.chain_endings.proofs.account.add_to.Goals as goal
 
 pub add-requires : goal.add-requires

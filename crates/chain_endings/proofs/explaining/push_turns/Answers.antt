@@ -1,33 +1,46 @@
-use Rattle.chain_endings.proofs.Names.{RiseFrom, turn_with, Parts, Turn, turn_at, append-nil, ◌≡◌, ◌<◌, ◌≤◌, [], ◌∷◌, ◌++◌, drop, length, map, reverse, ap, ◌∙◌, arith, common_steps, bare, ending_of, text_of}
+use Rattle.chain_endings.proofs.Lemmas.{RiseFrom, turn_with, Parts, Turn, turn_at, append-nil, ◌≡◌, ◌<◌, ◌≤◌, [], ◌∷◌, ◌++◌, drop, length, map, reverse, ap, ◌∙◌, arith, common_steps, bare, ending_of, text_of, turn_lines, turns_lines, turn_endings, last_tick, moments, heard_since, text_more}
 use Rattle.std.proofs.Math.Seq.{get_or-append_seam}
-use Rattle.filter_chain.specs.History.{last_tick}
 use Rattle.filter_chain.proofs.TranscriptLemmas.{last_of, newest_first}
-use Rattle.chain_spec.specs.Moments.{moments}
-use Rattle.chain_endings.specs.{turn_lines, turns_lines, turn_endings}
-use Rattle.chain_endings.proofs.HearingLemmas.{heard_since}
-use Rattle.chain_endings.proofs.TurnsLemmas.{text_more}
-use Rattle.chain_endings.proofs.explaining.push_turns.Goals.{In-Some, In_ok-heard}
+use Rattle.chain_endings.proofs.explaining.push_turns.Goals.{In_ok-heard}
 use Rattle.chain_endings.proofs.explaining.push_turns.Goals as goal
 
 -- the turn that is taken
-abbrev turn_of : In-Some → Turn
+abbrev turn_of : In_ok-heard → Turn
 turn_of c = turn_with c.in-Some.head c.in-Some.entries
 
--- the turns before it and after it
-behind : (c : In-Some) → (c.loop-head.turns ≡ turn_of c ∷ c.pop_front.new.self)
+-- the turns before it and after it, that ticks rise, and what is heard before it and after it
+known : (c : In_ok-heard) → let before = c.loop-head.invariant in
+    (c.loop-head.turns ≡ turn_of c ∷ c.pop_front.new.self)
     × (c.loop-head.turn < length c.args.history.now.turns) × (turn_at c.args.history.now.turns c.loop-head.turn ≡ turn_of c)
-behind c =
+    × RiseFrom (last_tick before.0) (turn_of c ∷ c.pop_front.new.self)
+    × (length c.in_ok-from.field-0.now ≤ length c.in_ok-heard.field-0.now)
+    × (map ending_of (drop (length c.in_ok-from.field-0.now) c.in_ok-heard.field-0.now)
+    ≡ map bare (turn_endings c.args.config.now (moments c.args.config.now (reverse before.0)) (turn_of c)))
+known c =
+    let config = c.args.config.now in
     let before = c.loop-head.invariant in
-    let rest = c.pop_front.new.self in
-    let left : c.loop-head.turns ≡ turn_of c ∷ rest = grind (arith, common_steps) in
-    let whole : before.0 ++ turn_of c ∷ rest ≡ c.args.history.now.turns = rw (← left) before.1.whole in
-    (left, grind (arith, common_steps, before.1.count, ap length whole), rw (before.1.count, ← whole) (get_or-append_seam before.0 (turn_of c) rest _))
+    let past = reverse before.0 in
+    let turn = turn_of c in
+    let left : c.loop-head.turns ≡ turn ∷ c.pop_front.new.self = grind (arith, common_steps) in
+    let whole : before.0 ++ turn ∷ c.pop_front.new.self ≡ c.args.history.now.turns = rw (← left) before.1.whole in
+    let rises = rw left at before.1.ticks in
+    let now = rw newest_first at (c.take.ensures.stands config before.0 before.1.stands rises.0) in
+    let since = heard_since ending_of config (moments config past) turn c.in_ok-from.field-0.now c.in_ok-heard.field-0.now
+    (c.in_ok-from.ensures config (moments config past) (c.witness.ensures config past before.1.stands))
+    (c.in_ok-heard.ensures config (moments config (turn ∷ past)) (c.witness-in-Some.ensures config (turn ∷ past) now)) in (
+      left,
+      grind (arith, common_steps, before.1.count, ap length whole),
+      rw (before.1.count, ← whole) (get_or-append_seam before.0 turn c.pop_front.new.self _),
+      rises,
+      since.0,
+      since.1,
+    )
 
 pub watched-requires : goal.watched-requires
 watched-requires c = c.make.ensures c.args.config.now
 
 pub overflow_add-turn : goal.overflow_add-turn
-overflow_add-turn c = omega (arith, (behind (goal.at.overflow_add-turn c).In-Some).1, c.turns-turns.ensures)
+overflow_add-turn c = omega (arith, (known (goal.at.overflow_add-turn c).In_ok-heard).1, c.turns-turns.ensures)
 
 pub loop-head-init : goal.loop-head-init
 loop-head-init c =
@@ -36,29 +49,11 @@ loop-head-init c =
     let text = ap (λ ts. c.args.out.now.items ++ text_of (turns_lines config [] ts)) walked in
     ([], grind (arith, common_steps, walked, text, c.in_ok-chain.ensures, c.requires))
 
--- the ticks rise, and what is heard before a turn and after it
-heard : (c : In_ok-heard) → let before = c.loop-head.invariant in let past = moments c.args.config.now (reverse before.0) in
-    let turn = turn_with c.in-Some.head c.in-Some.entries in RiseFrom (last_tick before.0) (turn ∷ c.pop_front.new.self)
-    × (length c.in_ok-from.field-0.now ≤ length c.in_ok-heard.field-0.now)
-    × (map ending_of (drop (length c.in_ok-from.field-0.now) c.in_ok-heard.field-0.now) ≡ map bare (turn_endings c.args.config.now past turn))
-heard c =
-    let config = c.args.config.now in
-    let before = c.loop-head.invariant in
-    let past = reverse before.0 in
-    let turn = turn_with c.in-Some.head c.in-Some.entries in
-    let left : c.loop-head.turns ≡ turn ∷ c.pop_front.new.self = grind (arith, common_steps) in
-    let rises = rw left at before.1.ticks in
-    let now = rw newest_first at (c.take.ensures.stands config before.0 before.1.stands rises.0) in
-    let since = heard_since ending_of config (moments config past) turn c.in_ok-from.field-0.now c.in_ok-heard.field-0.now
-    (c.in_ok-from.ensures config (moments config past) (c.witness.ensures config past before.1.stands))
-    (c.in_ok-heard.ensures config (moments config (turn ∷ past)) (c.witness-in-Some.ensures config (turn ∷ past) now)) in
-    (rises, since.0, since.1)
-
 pub split_at-requires : goal.split_at-requires
-split_at-requires c = (heard (goal.at.split_at-requires c).In_ok-heard).1
+split_at-requires c = (known (goal.at.split_at-requires c).In_ok-heard).4
 
 pub push_turn-requires : goal.push_turn-requires
-push_turn-requires c = (behind (goal.at.push_turn-requires c).In-Some).1
+push_turn-requires c = (known (goal.at.push_turn-requires c).In_ok-heard).1
 
 pub loop-head-preserved : goal.loop-head-preserved
 loop-head-preserved c =
@@ -67,18 +62,17 @@ loop-head-preserved c =
     let turn = turn_with c.in-Some.head c.in-Some.entries in
     let rest = c.pop_front.new.self in
     let past = reverse before.0 in
-    let place = behind (goal.at.loop-head-preserved c).In-Some in
-    let left = place.0 in
-    let known = heard (goal.at.loop-head-preserved c).In_ok-heard in
+    let known = known (goal.at.loop-head-preserved c).In_ok-heard in
+    let left = known.0 in
     let fit = rw left at before.1.turns_fit in
     let ms = moments config past in
     let same = c.parts-parts.ensures.value in
-    let lines = c.in_ok-push_turn.ensures ms (rw (c.split_at.ensures.back, same, place.2) known.2)
+    let lines = c.in_ok-push_turn.ensures ms (rw (c.split_at.ensures.back, same, known.2) known.5)
     ∙ ap (λ (p : Parts). c.loop-head.out.items ++ text_of (turn_lines p ms (turn_at c.args.history.now.turns c.loop-head.turn))) same
-    ∙ ap (λ t. c.loop-head.out.items ++ text_of (turn_lines config ms t)) place.2 in
+    ∙ ap (λ t. c.loop-head.out.items ++ text_of (turn_lines config ms t)) known.2 in
     let text = text_more c.loop-head.out.items (turn_lines config ms turn) (turns_lines config (turn ∷ past) rest) (rw left at before.1.text) lines in
-    let stands = c.take.ensures.stands config before.0 before.1.stands known.0.0 in
-    (before.0 ++ turn ∷ [], grind (arith, common_steps, before.1, left, known.0, fit, text, stands, newest_first before.0 turn, last_of before.0 turn, c.take.ensures))
+    let stands = c.take.ensures.stands config before.0 before.1.stands known.3.0 in
+    (before.0 ++ turn ∷ [], grind (arith, common_steps, before.1, left, known.3, fit, text, stands, newest_first before.0 turn, last_of before.0 turn, c.take.ensures))
 
 pub returns-clause-text : goal.returns-clause-text
 returns-clause-text c = let end = c.loop-head.invariant in grind (arith, common_steps, end.1.text)

@@ -1,8 +1,5 @@
-use Rattle.chain_endings.proofs.Names.{CanTake, RiseFrom, IsReady, Turn, ◌≡◌, ◌++◌, [], List, length, reverse, All, AllByRecursion, text_of}
-use Rattle.filter_chain.specs.{last_tick, IsShort}
-use Rattle.event_chain.specs.Standing.{StandsWatched}
+use Rattle.chain_endings.proofs.Lemmas.{CanTake, RiseFrom, IsReady, Turn, ◌≡◌, ◌++◌, [], List, length, reverse, All, AllByRecursion, text_of, turns_lines, Hears, last_tick, IsShort, StandsWatched}
 use Rattle.filter_aggregate.specs.Account.{all_kept}
-use Rattle.chain_endings.specs.{turns_lines, Hears}
 use Rattle.chain_endings.proofs.explaining.push_turns.Given as goal
 
 -- the chain stands for the turns that were taken, their lines have been printed, and what is left can be taken

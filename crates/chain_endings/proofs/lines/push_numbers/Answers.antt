@@ -1,4 +1,4 @@
-use Rattle.chain_endings.proofs.Names.{arith, append_assoc}
+use Rattle.std.proofs.Common.{arith, append_assoc}
 use Rattle.chain_endings.proofs.lines.push_numbers.Goals as goal
 
 pub returns : goal.returns

@@ -1,5 +1,4 @@
-use Rattle.chain_endings.proofs.Names.{turn_at, State, append-nil, drop_all, drop_more, ◌<◌, ◌≤◌, length, refl, arith}
-use Rattle.chain_endings.proofs.TurnsLemmas.{left_next}
+use Rattle.chain_endings.proofs.Lemmas.{turn_at, State, append-nil, drop_all, drop_more, ◌<◌, ◌≤◌, length, refl, arith, left_next}
 use Rattle.chain_endings.proofs.turns.push_entries.Goals as goal
 
 pub loop-i-init : goal.loop-i-init

@@ -1,7 +1,4 @@
-use Rattle.chain_endings.proofs.Names.{turn_at, ◌≡◌, ◌++◌, List, drop, map, bare, ending_of, text_of}
-use Rattle.chain_spec.specs.Moments.{Moment}
-use Rattle.chain_endings.specs.{entry_lines, endings_along, entry_moments}
-use Rattle.chain_endings.proofs.TurnsLemmas.{Left}
+use Rattle.chain_endings.proofs.Lemmas.{turn_at, ◌≡◌, ◌++◌, List, drop, map, bare, ending_of, text_of, entry_lines, endings_along, entry_moments, Moment, Left}
 use Rattle.chain_endings.proofs.turns.push_entries.Given as goal
 
 -- the first entries have been printed, and their endings are taken

@@ -1,8 +1,5 @@
-use Rattle.chain_endings.proofs.Names.{turn_at, ◌∷◌, [], ◌++◌, map, refl, ◌∙◌, with_all, bare, ending_of}
+use Rattle.chain_endings.proofs.Lemmas.{turn_at, ◌∷◌, [], ◌++◌, map, refl, ◌∙◌, with_all, bare, ending_of, endings_along, entry_lines, given_line, opening, begins, line_for, text_more, turn_parts}
 use Rattle.std.proofs.lemmas.Simd.{map-map}
-use Rattle.text_spec.specs.{begins, line_for}
-use Rattle.chain_endings.specs.{endings_along, entry_lines, given_line, opening}
-use Rattle.chain_endings.proofs.TurnsLemmas.{text_more, turn_parts}
 use Rattle.chain_endings.proofs.turns.push_turn.Goals as goal
 
 pub returns : goal.returns
@@ -15,6 +12,6 @@ returns c before is =
     let given = map (given_line config) (endings_along config before (opening config turn)) in
     let lines = entry_lines config turn.head.tick past turn.entries in
     let begun = text_more c.args.out.now.items (line_for (begins turn.head) ∷ []) (given ++ lines) refl
-    (rw (c.in_ok-push_head.ensures, c.head.ensures) refl) in
+    (rw (c.in_ok-push_head.ensures.ok, c.head.ensures) refl) in
     c.in_ok-push_entries.ensures past (rw (c.split_at.ensures.back, at) parts.1) ∙ text_more c.push_head.new.out.items given lines begun
     (rw (c.in_ok-push_opening.ensures, c.split_at.ensures.front, at, parts.0, map-map (given_line config) bare) refl)

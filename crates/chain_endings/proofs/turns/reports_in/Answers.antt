@@ -1,5 +1,4 @@
-use Rattle.chain_endings.proofs.Names.{Entry, length-take, List, ℕ, arith}
-use Rattle.chain_endings.proofs.AccountingLemmas.{filter_few}
+use Rattle.chain_endings.proofs.Lemmas.{Entry, length-take, List, ℕ, arith, filter_few}
 use Rattle.chain_endings.proofs.turns.reports_in.Goals as goal
 
 pub overflow_add-reports : goal.overflow_add-reports

@@ -1,5 +1,4 @@
-use Rattle.chain_endings.proofs.Names.{turn_at, ◌≡◌, filter, length, take}
-use Rattle.chain_endings.specs.Hearing.{is_report}
+use Rattle.chain_endings.proofs.Lemmas.{turn_at, ◌≡◌, filter, length, take, is_report}
 use Rattle.chain_endings.proofs.turns.reports_in.Given as goal
 
 -- the reports among the first entries are counted

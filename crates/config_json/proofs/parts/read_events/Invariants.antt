@@ -1,4 +1,4 @@
-use Rattle.config_json.proofs.Names.{◌≡◌, ◌++◌, map, drop, view, event_in}
+use Rattle.config_json.proofs.PrintedLemmas.{◌≡◌, ◌++◌, map, drop, view, event_in}
 use Rattle.config_json.proofs.parts.read_events.Given as goal
 
 -- what the rest has, after what was read, is what all trees have

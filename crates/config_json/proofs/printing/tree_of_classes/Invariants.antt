@@ -1,4 +1,4 @@
-use Rattle.config_json.proofs.Names.{◌≡◌, ◌++◌, map, drop, view, class_of, class_tree}
+use Rattle.config_json.proofs.PrintedLemmas.{◌≡◌, ◌++◌, map, drop, view, class_of, class_tree}
 use Rattle.config_json.proofs.printing.tree_of_classes.Given as goal
 
 -- the trees of the rest, after those that were made, are the trees of all

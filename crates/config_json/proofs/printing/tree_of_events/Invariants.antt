@@ -1,4 +1,4 @@
-use Rattle.config_json.proofs.Names.{◌≡◌, ◌++◌, map, drop, view, event_tree}
+use Rattle.config_json.proofs.PrintedLemmas.{◌≡◌, ◌++◌, map, drop, view, event_tree}
 use Rattle.config_json.proofs.printing.tree_of_events.Given as goal
 
 -- the trees of the rest, after those that were made, are the trees of all

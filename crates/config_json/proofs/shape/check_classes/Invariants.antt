@@ -1,4 +1,4 @@
-use Rattle.config_json.proofs.Names.{◌≡◌, map, drop, view, each, class_shape}
+use Rattle.config_json.proofs.PrintedLemmas.{◌≡◌, map, drop, view, each, class_shape}
 use Rattle.config_json.proofs.shape.check_classes.Given as goal
 
 -- the rest has the fault that all classes have

@@ -1,4 +1,4 @@
-use Rattle.config_json.proofs.Names.{◌≡◌, map, drop, view, each, event_shape_at}
+use Rattle.config_json.proofs.PrintedLemmas.{◌≡◌, map, drop, view, each, event_shape_at}
 use Rattle.config_json.proofs.shape.check_events.Given as goal
 
 -- the rest has the fault that all events have

@@ -1,6 +1,5 @@
-use Rattle.chain_endings.proofs.Names.{entries_of, Entry, ◌≡◌, ℕ, ◌++◌, List, length}
-use Rattle.chain_endings.specs.Accounting.{CountsMissing}
-use Rattle.chain_endings.proofs.accounts.missing_in.Given as goal
+use Rattle.chain_endings.proofs.Lemmas.{entries_of, Entry, ◌≡◌, ℕ, ◌++◌, List, length, CountsMissing}
+use Rattle.chain_endings.proofs.account.missing_in.Given as goal
 
 -- the entries of the turns that were gone over are counted, and with those that are left they are all
 abbrev pub invariant-loop-entries : goal.invariant-loop-entries

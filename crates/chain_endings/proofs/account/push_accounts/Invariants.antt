@@ -1,6 +1,5 @@
-use Rattle.chain_endings.proofs.Names.{◌≡◌, ◌++◌, map, range_with_len, text_of}
-use Rattle.chain_endings.specs.ExplainedText.{account_line}
-use Rattle.chain_endings.proofs.accounts.push_accounts.Given as goal
+use Rattle.chain_endings.proofs.Lemmas.{◌≡◌, ◌++◌, map, range_with_len, text_of, account_line}
+use Rattle.chain_endings.proofs.account.push_accounts.Given as goal
 
 -- the accounts of the first events have been printed
 abbrev pub invariant-loop-event : goal.invariant-loop-event

@@ -1,6 +1,5 @@
-use Rattle.chain_endings.proofs.Names.{Entry, ◌≡◌, ℕ, ◌++◌, List, length}
-use Rattle.chain_endings.specs.Accounting.{CountsMissing}
-use Rattle.chain_endings.proofs.accounts.count_all.Given as goal
+use Rattle.chain_endings.proofs.Lemmas.{Entry, ◌≡◌, ℕ, ◌++◌, List, length, CountsMissing}
+use Rattle.chain_endings.proofs.account.count_all.Given as goal
 
 -- the first entries are counted
 abbrev pub invariant-loop-entry : goal.invariant-loop-entry

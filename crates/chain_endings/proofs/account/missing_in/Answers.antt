@@ -1,5 +1,5 @@
-use Rattle.chain_endings.proofs.Names.{append-nil, ◌++◌, length, ap, arith, common_steps}
-use Rattle.chain_endings.proofs.accounts.missing_in.Goals as goal
+use Rattle.chain_endings.proofs.Lemmas.{append-nil, ◌++◌, length, ap, arith, common_steps}
+use Rattle.chain_endings.proofs.account.missing_in.Goals as goal
 
 pub count_all-requires : goal.count_all-requires
 count_all-requires c =

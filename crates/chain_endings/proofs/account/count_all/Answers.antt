@@ -1,8 +1,5 @@
-use Rattle.chain_endings.proofs.Names.{Entry, append-nil, ℕ, List, [], ◌∷◌, ◌++◌, length, ap, ◌∙◌, arith, append_assoc, common_steps}
-use Rattle.ids_types.specs.Plain.{plain_entry}
-use Rattle.chain_endings.specs.ExplainedText.{is_missing}
-use Rattle.chain_endings.proofs.AccountingLemmas.{filter_few, missing_more}
-use Rattle.chain_endings.proofs.accounts.count_all.Goals as goal
+use Rattle.chain_endings.proofs.Lemmas.{Entry, append-nil, ℕ, List, [], ◌∷◌, ◌++◌, length, ap, ◌∙◌, arith, append_assoc, common_steps, plain_entry, is_missing, filter_few, missing_more}
+use Rattle.chain_endings.proofs.account.count_all.Goals as goal
 
 pub loop-entry-init : goal.loop-entry-init
 loop-entry-init c = ([], grind (arith, common_steps))
