@@ -1,7 +1,4 @@
-pub mod ConfigLemmas
-pub mod CountLemmas
 pub mod DrawLemmas
-mod FitLemmas
+pub mod FitLemmas
 mod Names
 pub mod RecordingLemmas
-pub mod TraceLemmas

@@ -1,7 +1,10 @@
--- Calls and turns, one after another.
-use Rattle.gen_recording.proofs.Names.{◌≡◌, ◌≤◌, ◌<◌, ◌+◌, ℕ, zero, suc, List, [], ◌∷◌, ◌++◌, length, map, take, drop, get_or, reverse, refl, sym, ap, ◌∙◌, arith, common_steps, append_assoc, flat_map, length-map, plain_entry, Parts, FitsAct, KeepUpFrom, Asked, Round, reports, changes, sets, round_ticks, Call, Plan, act_of, call_by, calls_from, calls_of, entries_of, entry_of, CanAsk, IsAt, Recorder, begun_round, round_at}
+-- Calls and turns, one after another, and their counts.
+use Rattle.gen_recording.proofs.Names.{◌≡◌, ◌≤◌, ◌<◌, ◌+◌, ℕ, zero, suc, List, [], ◌∷◌, ◌++◌, length, map, take, drop, get_or, reverse, refl, sym, ap, ◌∙◌, arith, common_steps, append_assoc, flat_map, length-map, plain_entry, Parts, FitsAct, KeepUpFrom, Asked, Round, reports, changes, sets, round_ticks, Call, Plan, act_of, call_by, calls_from, calls_of, entries_of, entry_of, CanAsk, IsAt, Recorder, begun_round, round_at, filter, set, cond, count_by, nat_lt, ClassSpec, class_of, AreCalls}
+use Rattle.std.proofs.Math.ListN.{length-set}
+use Rattle.std.proofs.lemmas.Bool.Decides.{nat_tests}
 use Rattle.std.proofs.lemmas.Grind.{reverse_onto}
 use Rattle.std.proofs.lemmas.List.{drop_more}
+use Rattle.std.proofs.lemmas.List.Sums.{sum_by-cons}
 use Rattle.text_spec.proofs.TraceFacts.{keep_split, last_from-push}
 
 -- entries of calls with one call more
@@ -53,3 +56,18 @@ next_keeps least rounds k end there keeps =
     let rest = flat_map round_ticks (drop (k + 1) rounds) in
     let both = keep_split least (round_ticks round) (rest ++ end ∷ []) (rw (drop_more rounds k (begun_round 0 [] 0), append_assoc (round_ticks round) rest (end ∷ [])) at keeps) in
     (both.0, rw (last_from-push least round.beside round.after []) at both.1)
+
+-- ---- counts, with one call more
+
+-- a caller's calls, with one more
+pub calls_more : (config : Parts) (past : List Call) (numbers : List ℕ) (caller : ℕ) (asked : Asked) → caller < length numbers → AreCalls config past numbers
+    → AreCalls config (record { caller = caller; asked = asked } ∷ past) (set numbers caller (get_or numbers caller 0 + 1))
+calls_more config past numbers caller asked there are = grind (arith, common_steps, nat_tests, length-set, there, are)
+
+-- the classes that are too small, as pairs and as classes
+pub small_classes : (bytes : ℕ) (pairs : List (ℕ × ℕ))
+    → length (filter (λ (class : ClassSpec). nat_lt class.size bytes) (map class_of pairs)) ≡ count_by (λ pair. nat_lt pair.0 bytes) pairs
+small_classes bytes [] = refl
+small_classes bytes (pair ∷ pairs) =
+    let more = sum_by-cons (λ (p : ℕ × ℕ). cond (nat_lt p.0 bytes) 1 0) pair pairs in
+    grind (arith, common_steps, small_classes bytes pairs, more)

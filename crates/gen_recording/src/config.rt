@@ -11,22 +11,12 @@ use ids_types::{Mode, NoMemory};
 use std::alloc::{AllocError, Global};
 
 /// The configuration for these options.
-#[tactic(auto, using(crate::proofs::ConfigLemmas::config_faultless))]
+#[tactic(auto, using(crate::proofs::FitLemmas::config_faultless))]
 pub(crate) fn make_config(alloc: Global, options: &Options) -> Result<Config, NoMemory>
     requires { IsTrue (is_in_range options.now) }
     ensures { IfOk result (λ config. config ≡ config_of options.now) }
 {
-    match Config::check(make_parts(alloc, options)?) {
-        Ok(config) => Ok(config),
-        Err(_) => unreachable!(),
-    }
-}
-
-fn make_parts(alloc: Global, options: &Options) -> Result<ConfigParts, AllocError>
-    requires { options.now.events ≤ 200 }
-    ensures { IfOk result (λ parts. parts ≡ config_of options.now) }
-{
-    Ok(ConfigParts {
+    let parts = ConfigParts {
         profile: 1,
         instance: 18,
         callers: options.callers,
@@ -46,11 +36,15 @@ fn make_parts(alloc: Global, options: &Options) -> Result<ConfigParts, AllocErro
         lost_events: Some(options.events),
         lost_contexts: Some(options.events + 1),
         limited: Some(options.events + 2),
-    })
+    };
+    match Config::check(parts) {
+        Ok(config) => Ok(config),
+        Err(_) => unreachable!(),
+    }
 }
 
 /// So many events that sensors report, and the internal ones after them.
-#[tactic(auto, using(crate::proofs::TraceLemmas::drawings))]
+#[tactic(auto, using(crate::proofs::DrawLemmas::drawings))]
 fn make_events(alloc: Global, events: u64) -> Result<Vec<EventParts>, AllocError>
     requires { events ≤ 200 }
     ensures { IfOk result (λ all. all.items ≡ all_events events) }

@@ -1,6 +1,6 @@
-//! The entry of a call that loses nothing.
+//! The entry of a call that loses nothing, by how often callers called and how many buffers were claimed.
 
-ghost use Rattle.std.specs.Prelude.{◌≡◌, ◌<◌, ◌∷◌, [], ℕ, List, Option, length, map, filter, count_by, nat_lt, IfOk, OnOk};
+ghost use Rattle.std.specs.Prelude.{◌≡◌, ◌<◌, ◌+◌, ◌∷◌, [], ℕ, List, Option, length, map, set, filter, count_by, nat_lt, slice_index, IfOk, OnOk};
 ghost use Rattle.ids_types.specs.{act_by, plain_carried, plain_entry};
 ghost use Rattle.ids_config.specs.Parts.{class_of};
 ghost use Rattle.history_spec.specs.Names.{ClassSpec, EventIndex, Stamp};
@@ -8,10 +8,42 @@ ghost use Rattle.history_spec.specs.Rounds.{reports};
 ghost use Rattle.trace_text.specs.Lines.{line_asked};
 ghost use Rattle.gen_recording.specs.{AreClaims, AreCounts, HasClass, HasClassFor, Call, act_of, carried, entry_of};
 
-use crate::counts::{Counts, count};
 use ids_config::Config;
 use ids_types::{Act, Carried, Entry, NoMemory, Plain};
+use std::alloc::Global;
 use trace_text::{Line, TraceAct};
+
+/// How many calls each caller made, and how many buffers of each class were claimed.
+#[derive(Debug, Drop)]
+pub(crate) struct Counts {
+    pub(crate) calls: Vec<u64>,
+    pub(crate) claims: Vec<u64>,
+}
+
+impl Counts {
+    /// Before the first call.
+    pub(crate) fn make(alloc: Global, config: &Config) -> Result<Counts, NoMemory>
+        ensures { IfOk result (AreCounts config.now []) }
+    {
+        let parts = config.parts();
+        Ok(Counts {
+            calls: Vec::from_elem(alloc, 0, parts.callers as usize)?,
+            claims: Vec::from_elem(alloc, 0, parts.classes.len())?,
+        })
+    }
+}
+
+/// The number at this place, which counts one more from now on.
+fn count(numbers: &mut Vec<u64>, place: usize) -> Result<u64, NoMemory>
+    requires { place < length numbers.old.items }
+    ensures number { IfOk result (λ n. n ≡ slice_index numbers.old.items place) }
+    ensures more { OnOk result (numbers.new.items
+        ≡ set numbers.old.items place (slice_index numbers.old.items place + 1)) }
+{
+    let number = numbers[place];
+    numbers[place] = number.checked_add(1).ok_or(NoMemory)?;
+    Ok(number)
+}
 
 /// The entry of a caller's line, with the next numbers of its call and of the buffer that keeps its context.
 pub(crate) fn make_entry<'t>(

@@ -37,21 +37,8 @@ pub fn generate(alloc: Global, options: &Options) -> Result<Generated, NoMemory>
 {
     let config = make_config(alloc, options)?;
     let trace = draw_trace(alloc, options, &config)?;
-    recorded(alloc, options, &config, &trace)
-}
-
-/// The recording of these options, whose configuration and trace are made.
-fn recorded(
-    alloc: Global,
-    options: &Options,
-    config: &Config,
-    trace: &Trace,
-) -> Result<Generated, NoMemory>
-    requires { IsMade options.now config.now trace.now }
-    ensures { IfOk result (IsGenerated options.now) }
-{
-    let mut recorder = Recorder::make(alloc, config)?;
-    recorder.recording(alloc, options, config, trace)
+    let mut recorder = Recorder::make(alloc, &config)?;
+    recorder.recording(alloc, options, &config, &trace)
 }
 
 // Each `?` of these functions drops little: what is large is lent to the next.

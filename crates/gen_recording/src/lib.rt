@@ -8,12 +8,9 @@
 #![tactic(auto)]
 
 mod config;
-mod counts;
 mod drawing;
-mod draws;
 mod entries;
 mod generated;
-mod quiet;
 mod recorder;
 
 pub use generated::{Generated, generate};

@@ -1,22 +1,12 @@
 -- The end of a replay: from where its callers and its manager stand to what it gives.
-use Rattle.trace_replay.proofs.Names.{CanPlay, cases_lt, inl, inr, ◌≡◌, ℕ, suc, ◌+◌, List, [], ◌∷◌, length, map, refl, sym, ap, ◌∙◌, arith, AllByRecursion, append-nil, at_map, length-map, map-append, take_all, Turn, Parts, IsValid, all_losses, losses_from, last_tick, ticks_of, AreRounds, Buffer, PassMemo, pass_memo, Shared, fates_in, losses_in, Traced, calls_by, add-one, Round, rest_after, rest_by, IsPast, HavePlayed, Closes, IsRecordOf, IsSmallTurn, tick_of, turns_in, all_rests, as_told, losses_by, Plays, views_of, Caller, Recorder, at_map_back, some, all_append, get_elem?}
-use Rattle.trace_text.specs.Small.{AreSmall}
-use Rattle.trace_text.proofs.JournalLemmas.{merge_fits}
+use Rattle.trace_replay.proofs.Names.{AllByRecursion, AllOf, AreRounds, AreSettled, AreTied, Buffer, Caller, CanPlay, ClassRest, Closes, Giver, GoesOn, HaveAllCalls, HavePlayed, IsClassRest, IsMadeFor, IsPast, IsRecordOf, IsReplayOver, IsSettled, IsSmallTurn, IsValid, KeepsReleased, List, Option, Parts, PassMemo, Plays, Recorder, ReleasedMore, Round, SeesRests, Shared, Traced, Turn, [], add-one, all_append, all_losses, all_rests, ap, append-nil, arith, as_told, asks_back, at_map, at_map_back, calls_by, came, cases_lt, class_at, ended, fates_in, get_elem?, given, giver_memo, inl, inr, last_tick, length, length-map, losses_by, losses_from, losses_in, map, map-append, pass_memo, refl, released_by, rest_after, rest_by, some, suc, sym, take_all, tick_of, ticks_of, turns_in, views_of, without_log, zero, ℕ, ◌*◌, ◌+◌, ◌<◌, ◌∙◌, ◌∷◌, ◌≡◌, ◌≤◌}
 use Rattle.law_closing.proofs.SizeLemmas.{first_is_small}
-use Rattle.law_closing.specs.Closed.{IsMadeFor, came}
-use Rattle.trace_replay.specs.Replayed.{IsReplayOver, given}
-use Rattle.std.specs.Prelude.{◌≤◌, ◌<◌, ◌*◌, Option, zero}
-use Rattle.buffer_classes.specs.{AllOf, giver_memo}
-use Rattle.buffer_classes.specs.declared.giver.Giver.{Giver}
-use Rattle.history_spec.specs.{AreSettled, ClassRest, class_at}
 use Rattle.main_function.proofs.LogLemmas.{mine_without, stands_without}
-use Rattle.main_function.specs.{KeepsReleased, without_log}
-use Rattle.permit_ring.specs.{GoesOn, IsSettled, SeesRests, ended}
-use Rattle.report_api.specs.{AreTied, asks_back}
-use Rattle.trace_replay.specs.{IsClassRest, ReleasedMore, released_by}
-use Rattle.trace_replay.proofs.PastLemmas.{class_rest, past_asked, past_rested, past_still, past_told}
 use Rattle.trace_replay.proofs.MergeLemmas.{merged, no_lines}
+use Rattle.trace_replay.proofs.RestLemmas.{class_rest, past_asked, past_rested, past_still, past_told}
 use Rattle.trace_replay.proofs.RoundLemmas.{at_rest}
+use Rattle.trace_text.proofs.JournalLemmas.{merge_fits}
+use Rattle.trace_text.specs.Small.{AreSmall}
 
 -- the losses of callers that list what they lost, one caller after another
 all_listed : (n from : ℕ) (callers : List Caller)
@@ -82,6 +72,8 @@ module _ {C : Type 0} {stands : C → Parts → List Turn → Type 0} {events : 
       let between = plays.between in
       let was = plays.records config begun in
       let recorded = closes.advances.records config was in
+      let closed = closes.closed in
+      let calls : HaveAllCalls config (views_of callers) (turns_in r2) = rw closes.gathered (closed.all_calls config _ made_for was.stands_for) in
       let whole = take_all (length trace.rounds) trace.rounds (omega arith) in
       let listed = λ (i : ℕ) (caller : Caller) (at : get_elem? callers i ≡ some caller).
       rw (whole, made_for.positions_are, made_for.sizes) at (at_rest shared trace.rounds (length trace.rounds) callers between.at_rest i caller at).listed in
@@ -98,8 +90,8 @@ module _ {C : Type 0} {stands : C → Parts → List Turn → Type 0} {events : 
       rw (closes.advances.turns_are, map-append, between.ticks_are, closes.advances.ticks_are, tick_is, whole) refl in
       let sizes = λ (bytes : ℕ). rw made_for.sizes at (first_is_small config shared.classes bytes closes.advances.manager_is.desk_is.givers.are made_for.sizes) in
       let merge =
-      merged config trace.rounds (turns_in r2) (views_of callers) sizes (rw of_config at can.each_caller) played (closes.all_calls config made_for was)
-      (closes.sums config was) closes.counts ticks (all_map (IsSmallTurn config.ring) _ (λ turn is. is.few) (turns_in r2) small) in
+      merged config trace.rounds (turns_in r2) (views_of callers) sizes (rw of_config at can.each_caller) played calls
+      (rw closes.gathered (closed.sums config _ was.stands_for)) closed.counts ticks (all_map (IsSmallTurn config.ring) _ (λ turn is. is.few) (turns_in r2) small) in
       let are_small : AreSmall trace.rounds (turns_in r2) = record {
         few_lines = λ caller. elim (cases_lt caller trace.callers) [
           | inl less ↦ omega (arith, can.few caller less)
@@ -110,13 +102,12 @@ module _ {C : Type 0} {stands : C → Parts → List Turn → Type 0} {events : 
       } in
       let gone : (p : ℕ) (before pass : PassMemo) → get_elem? (released_by r2) p ≡ some before → get_elem? (views_of callers) before.number ≡ some pass → GoesOn before pass =
       λ p before pass rel at.
-      let on = closes.go_on p before (ended pass) rel (rw closes.back_is (at_map came (views_of callers) before.number pass at)) in
+      let on = closed.go_on p before (ended pass) rel (rw closed.are_back (at_map came (views_of callers) before.number pass at)) in
       record { calls = on.calls; log_is = on.log_is; rests = on.rests; rests_are = on.rests_are } in
       let past = λ (k : ℕ) (less : k < length trace.rounds).
       past_still closes.advances.turns [] (rw of_config at (plays.pasts config made_for begun k less)) closes.advances.turns_are
-      (closes.released_is ∙ sym (append-nil (released_by r1))) (none_more closes.classes_are) in
-      let sees = (closes.all_calls config made_for was).sees in
-      let settled = closes.settled config made_for was in
+      (closed.released_is ∙ sym (append-nil (released_by r1))) (none_more closed.classes_released) in
+      let settled = rw (← closes.gathered) at (closed.classes config _ made_for was.stands_for) in
       record {
         merged = rw losses_are merge;
         fits = rw losses_are (merge_fits config trace.rounds (turns_in r2) (losses_in config.ring (views_of callers)) valid rounds are_small merge);
@@ -130,12 +121,12 @@ module _ {C : Type 0} {stands : C → Parts → List Turn → Type 0} {events : 
         stands_for = stands_without recorded.stands_for;
         rests_are = closes.advances.rests_are ∙ between.rests_are ∙ ap (λ n. as_told (all_rests n trace.rounds)) of_config;
         passes = views_of callers;
-        are_back = closes.back_is;
+        are_back = closed.are_back;
         played = played;
-        calls = closes.all_calls config made_for was;
+        calls = calls;
         losses_are = losses_are;
-        rested = λ k less. rw losses_are (past_rested (views_of callers) played.all (past k less) gone sees);
+        rested = λ k less. rw losses_are (past_rested (views_of callers) played.all (past k less) gone calls.sees);
         claimants = settled.0;
         settled = settled.1;
-        classes_rested = λ k. rests_at (views_of callers) played.all past gone sees closes.back_is closes.tied closes.classes_settled settled.1 k;
+        classes_rested = λ k. rests_at (views_of callers) played.all past gone calls.sees closed.are_back closed.tied closed.settled settled.1 k;
       }

@@ -1,12 +1,8 @@
-pub mod AskedLemmas
 pub mod EndLemmas
 pub mod MergeLemmas
 pub mod Names
-pub mod PastLemmas
 pub mod RecordingLemmas
 pub mod RestLemmas
 pub mod RoundLemmas
 pub mod RoundLossLemmas
-pub mod RoundMissLemmas
-pub mod StartLemmas
 pub mod SyncLemmas

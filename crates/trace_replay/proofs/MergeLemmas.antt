@@ -1,21 +1,16 @@
 -- What the passes of a replay did is a merge of their callers' lines.
-use Rattle.trace_replay.proofs.Names.{too_small, AreCountsOf, AreSumsOf, ◌≡◌, ℕ, zero, suc, ◌+◌, ◌<◌, ◌≤◌, if◌then◌else◌, nat_lt, Bool, List, [], ◌∷◌, length, map, filter, sum_by, refl, sym, ap, subst, ◌∙◌, arith, inl, inr, length-append, AllByRecursion, AllZip, get_or_past, length-map, filter-append, sum_by-cons, Turn, entries_of, Parts, class_of, all_losses, losses_from, AreMerged, IsAsAsked, IsMerge, StandsIn, Asked, reports, changes, sets, Round, is_lost_report, lines_of, ticks_of, Act, Report, State, SetMode, Absent, Kept, Missing, Outcome, Lost, Got, PassMemo, lost_events, calls_in, fate_of, missing_in, plain_act, missed_by, HaveAllCalls, calls_by, fates_in, losses_in, or_at, Answers, IsAsked, lost_reports, HavePlayed, sizes_in, HasPlayed, at_map_back, some, AllZip-long, at_map, at_length, Misses, misses_context, entries_by, entries_from, get_elem?}
-use Rattle.std.proofs.Math.Path.{fun_ext}
-use Rattle.ids_types.specs.declared.class_spec.ClassSpec.{ClassSpec}
-use Rattle.buffer_classes.specs.Classes.{first_fitting}
+use Rattle.trace_replay.proofs.Names.{Absent, Act, AllByRecursion, AllZip, AllZip-long, Answers, AreCountsOf, AreMerged, AreSumsOf, Asked, Bool, ClassSpec, Entry, Got, HasPlayed, HaveAllCalls, HavePlayed, IsAsAsked, IsAsked, IsMerge, Kept, List, Lost, Misses, Missing, Outcome, Parts, PassMemo, Report, Round, SetMode, StandsIn, State, Turn, [], all_losses, ap, arith, at_length, at_map_back, below_or, calls_by, calls_in, changes, class_of, entries_by, entries_from, entries_of, fate_of, fates_in, filter, filter-append, first_fitting, fun_ext, get_elem?, get_or_past, if◌then◌else◌, inl, inr, is_lost_report, length, length-append, length-map, lines_of, losses_from, losses_in, lost_events, lost_reports, map, missed_by, misses_context, missing_by, nat_lt, or_at, plain_act, refl, reports, sets, sizes_in, some, subst, suc, sum_by, sum_by-cons, sym, ticks_of, too_small, zero, ℕ, ◌+◌, ◌<◌, ◌∙◌, ◌∷◌, ◌≡◌, ◌≤◌}
 use Rattle.main_function.specs.declared.rest.Totals.{Totals}
-use Rattle.buffer_classes.proofs.AskLemmas.{below_or}
-use Rattle.history_spec.specs.Names.{Entry}
+use Rattle.trace_replay.proofs.RestLemmas.{of_one, of_none, calls_in_log}
 
 -- ---- what was asked
 
 -- an outcome answers its line
 line_at_call : (sizes : List ℕ) (lines : List Asked) (log : List Outcome) (call : ℕ) (outcome : Outcome) → AllZip (Answers sizes) lines log
     → get_elem? log call ≡ some outcome → (asked : Asked) × (get_elem? lines call ≡ some asked) × Answers sizes asked outcome
-line_at_call sizes lines [] call outcome all at = cc
-line_at_call sizes [] (first ∷ log) call outcome all at = absurd all
 line_at_call sizes (asked ∷ lines) (first ∷ log) zero outcome all at = let same : first ≡ outcome = cc in (asked, refl, rw (← same) all.0)
 line_at_call sizes (asked ∷ lines) (first ∷ log) (suc call) outcome all at = line_at_call sizes lines log call outcome all.1 at
+line_at_call sizes lines log call outcome all at = absurd (grind arith)
 
 -- ---- lost reports
 
@@ -70,7 +65,7 @@ missed_plainly (Report event count stamp (Missing numbers)) = refl
 missed_plainly act = refl
 
 -- the entries of a log miss as many contexts as it
-missed_in : (caller call : ℕ) (log : List Outcome) → length (filter missed (entries_from caller call (calls_in log))) ≡ missing_in log
+missed_in : (caller call : ℕ) (log : List Outcome) → length (filter missed (entries_from caller call (calls_in log))) ≡ missing_by log
 missed_in caller call [] = refl
 missed_in caller call (Lost claimed ∷ log) = missed_in caller (suc call) log
 missed_in caller call (Got ticket item ∷ log) =
@@ -80,12 +75,12 @@ missed_in caller call (Got ticket item ∷ log) =
 -- and those of all passes
 missed_by_all : (es : List (Entry (List ℕ))) (i : ℕ) (passes : List PassMemo) → ((e : Entry (List ℕ)) → StandsIn es e → e.caller < i + length passes)
     → ((k j : ℕ) (pass : PassMemo) → j ≡ i + k → get_elem? passes k ≡ some pass → entries_by j es ≡ entries_from j 0 (calls_in pass.log))
-    → missed_from i es ≡ sum_by (λ pass. missing_in pass.log) passes
+    → missed_from i es ≡ sum_by (λ pass. missing_by pass.log) passes
 missed_by_all es i [] within each = (missed_parts i es).2 (λ e stands. omega (arith, within e stands))
 missed_by_all es i (pass ∷ passes) within each =
     let here = ap (λ xs. length (filter missed xs)) (each 0 i pass (omega arith) refl) ∙ missed_in i 0 pass.log in
     let rest = missed_by_all es (suc i) passes (λ e stands. omega (arith, within e stands)) (λ k j p is. each (suc k) j p (omega (arith, is))) in
-    omega (arith, (missed_parts i es).1, here, rest, sum_by-cons (λ (p : PassMemo). missing_in p.log) pass passes)
+    omega (arith, (missed_parts i es).1, here, rest, sum_by-cons (λ (p : PassMemo). missing_by p.log) pass passes)
 
 -- ---- all together
 
@@ -96,19 +91,13 @@ no_lines n caller [] each past = refl
 no_lines n caller (round ∷ rounds) each past =
     rw (get_or_past round.lines caller [] (omega (arith, each.0, past))) (no_lines n caller rounds each.1 past)
 
--- the calls of a caller are those of its pass
-calls_at : (passes : List PassMemo) (i : ℕ) (pass : PassMemo) → get_elem? passes i ≡ some pass → calls_by passes i ≡ calls_in pass.log
-calls_at passes i pass at = or_at _ i [] _ (at_map (λ (p : PassMemo). calls_in p.log) passes i pass at)
-
 module _ (sizes : List ℕ) (rounds : List Round) (passes : List PassMemo) (n : ℕ) (lines : AllByRecursion (λ round. length round.lines ≡ n) rounds)
     (all : length passes ≡ n) (played : (i : ℕ) (pass : PassMemo) → get_elem? passes i ≡ some pass → HasPlayed sizes (lines_of i rounds) pass) where
   -- each caller made as many calls as it has lines
   pub as_many_calls : (caller : ℕ) → length (calls_by passes caller) ≡ length (lines_of caller rounds)
   as_many_calls caller = elim (below_or passes caller) [
-    | inl its ↦ rw (calls_at passes caller its.0 its.1, length-map) (AllZip-long (Answers sizes) (lines_of caller rounds) its.0.log (played caller its.0 its.1).each)
-    | inr past ↦
-        let none = get_or_past (map (λ (p : PassMemo). calls_in p.log) passes) caller [] (rw length-map past) in
-        rw (none, no_lines n caller rounds lines (omega (arith, past, all))) refl
+    | inl its ↦ rw (of_one calls_in_log passes caller [] its.0 its.1, length-map) (AllZip-long (Answers sizes) (lines_of caller rounds) its.0.log (played caller its.0 its.1).each)
+    | inr past ↦ rw (of_none calls_in_log passes caller [] past, no_lines n caller rounds lines (omega (arith, past, all))) refl
   ]
 
 module _ (config : Parts) (rounds : List Round) (turns : List Turn) (passes : List PassMemo)
@@ -144,7 +133,7 @@ module _ (config : Parts) (rounds : List Round) (turns : List Turn) (passes : Li
     lost_events = sym sums.lost_events_are ∙ counts.lost_events_are ∙ sym (lost_by_all (sizes_in config) rounds config.ring 0 passes (λ i j pass is at. let same : j ≡ i = omega (arith, is) in rw same (played.each i pass at)));
     lost_contexts = sym sums.lost_contexts_are ∙ counts.lost_contexts_are ∙ sym ((missed_parts 0 (entries_of turns)).0 ∙ missed_by_all (entries_of turns) 0 passes
         (λ e stands. let its = have.in_claim_order stands.0 e stands.1 in omega (arith, at_length passes e.caller its.0 its.2))
-        (λ i j pass is at. let same : j ≡ i = omega (arith, is) in rw same (have.accepted i ∙ ap (entries_from i 0) (calls_at passes i pass at))));
+        (λ i j pass is at. let same : j ≡ i = omega (arith, is) in rw same (have.accepted i ∙ ap (entries_from i 0) (of_one calls_in_log passes i [] pass at))));
     ticks_are = ticks;
     few = few;
   }

@@ -1,19 +1,7 @@
 -- What was gathered, with one turn more, and with those of one list of ticks after those of another.
-use Rattle.trace_replay.proofs.Names.{◌≡◌, ℕ, List, [], ◌∷◌, ◌++◌, refl, sym, subst, ap, ◌∙◌, arith, append_assoc, length-append, length-map, map-append, Turn, Parts, last_from, Buffer, DeskMemo, Shared, IsManagerOf, rests_told, Turned, Manager, Advances, Continues, TurnsAtRest, PassMemo, desk_memo, length, turns_in, Gathered, Recorder, all_append, get_elem?}
+use Rattle.trace_replay.proofs.Names.{Adds, Advances, Buffer, Continues, DeskMemo, Gathered, Giver, IsMadeFor, IsManagerOf, IsRecordOf, List, Manager, Parts, PassMemo, Recorder, RestedTurn, Sends, Shared, Stands, Turn, Turned, TurnsAtRest, [], all_append, all_then, ap, append_assoc, arith, came, desk_memo, entries_of, false, gathers, last_from, length, length-append, length-map, map-append, plain_item, refl, rests_told, subst, sym, turns_in, ℕ, ◌++◌, ◌+◌, ◌∙◌, ◌∷◌, ◌≡◌}
 use Rattle.filter_chain.proofs.TranscriptLemmas.{newest_first, transcript_more}
-use Rattle.buffer_classes.proofs.ByIndexLemmas.{all_then}
-use Rattle.buffer_classes.specs.{givers_of}
-use Rattle.report_api.specs.{asks_back}
-use Rattle.trace_replay.proofs.AskedLemmas.{asked_at_rest, released_more, offered_at}
-use Rattle.filter_chain.specs.Transcripts.{Adds}
 use Rattle.filter_chain.specs.declared.transcript.Transcript.{Transcript}
-use Rattle.std.specs.Prelude.{false}
-use Rattle.trace_replay.specs.Recording.{gathers}
-use Rattle.filter_chain.specs.{Sends}
-use Rattle.law_closing.specs.Closed.{came, plain_item}
-use Rattle.main_function.specs.Resting.{Rested}
-use Rattle.main_function.specs.Standing.{Stands}
-use Rattle.buffer_classes.specs.declared.giver.Giver.{Giver}
 
 pub last_on : (low : ℕ) (ticks more : List ℕ) → last_from low (ticks ++ more) ≡ last_from (last_from low ticks) more
 last_on low [] more = refl
@@ -76,34 +64,28 @@ module _ {C : Type 0} {stands : C → Parts → List Turn → Type 0} {events : 
         }
 
     -- and one that was made at a rest
-    pub at_rest : {tick : ℕ} (passes nows : List PassMemo) → length passes ≡ length (desk_memo old.manager.desk).back → Rested stands gathers kept shared tick passes nows old.manager m
+    pub at_rest : {tick : ℕ} (passes nows : List PassMemo) → length passes ≡ length (desk_memo old.manager.desk).back → RestedTurn stands gathers kept shared tick passes nows old.manager m
         → TurnsAtRest stands events kept shared tick passes nows old (record { manager = m; transcript = t })
     at_rest passes nows all rested =
-        let closed = rested.closed in
-        let history = noted_turn old.manager rested.mid closed.turned.turn rested.new_is closed.turned.noted_is there in
-        let asked = asked_at_rest passes closed.are_back closed.tied closed.settled closed.classes_released rested.classes_remember in
         record {
-          advances = advances rested.new_is rested.stands_then closed.turned;
-          as_many = rested.moved.as_many ∙ ap length closed.are_back ∙ length-map passes came ∙ all;
-          all_calls = λ config made_for was. rw history (closed.all_calls config _ made_for was.stands_for);
-          remembers = rested.remembers;
-          all = rested.as_many;
-          offered = (desk_memo rested.mid.desk).offered;
-          each = rested.go_on;
-          offered_is = λ config made_for was.
-              let shows = (rested.stands_then config _ (closed.turned.stands_then config (turns_in old) was.stands_for)).reports_show.items_are in
-              rw history (omega (
-                arith,
-                ap (λ (k : DeskMemo). k.offered) rested.moved.memo_is,
-                now.offered_is,
-                now.positions_are,
-                made_for.positions_are,
-                ap length shows,
-                length-map (desk_memo m.desk).notes plain_item,
-              ));
-          classes_are = released_more passes closed.are_back closed.tied closed.settled closed.classes_released rested.classes_remember;
-          class_offered = λ i. offered_at (get_elem? (givers_of rested.mid.desk.givers) i);
-          asks = asks_back (givers_of rested.mid.desk.givers);
-          asked = asked;
-          settled = λ config made_for was. rw history (closed.classes config _ made_for was.stands_for);
+          advances = advances rested.new_is rested.stands_then rested.closed.turned;
+          as_many = rested.moved.as_many ∙ ap length rested.closed.are_back ∙ length-map passes came ∙ all;
+          rested = rested;
+          gathered = noted_turn old.manager rested.mid rested.closed.turned.turn rested.new_is rested.closed.turned.noted_is there;
         }
+
+  -- how much had been offered when the passes were held
+  pub offered_is : {tick : ℕ} {passes nows : List PassMemo} {old new : Recorder C} {config : Parts} (turn : TurnsAtRest stands events kept shared tick passes nows old new)
+      → IsMadeFor config shared → IsRecordOf stands config old → (desk_memo turn.rested.mid.desk).offered ≡ length (entries_of (turns_in new)) + config.ring
+  offered_is {old = old} {new = new} {config = config} turn made_for was =
+      let shows = (turn.rested.stands_then config _ (turn.rested.closed.turned.stands_then config (turns_in old) was.stands_for)).reports_show.items_are in
+      let now = turn.advances.manager_is in
+      rw turn.gathered (omega (
+        arith,
+        ap (λ (k : DeskMemo). k.offered) turn.rested.moved.memo_is,
+        now.offered_is,
+        now.positions_are,
+        made_for.positions_are,
+        ap length shows,
+        length-map (desk_memo new.manager.desk).notes plain_item,
+      ))

@@ -1,23 +1,73 @@
--- One round more.
-use Rattle.trace_replay.proofs.Names.{◌*◌, HasPasses, IsManagerOf, Manager, all_split, ◌≡◌, ℕ, ◌+◌, ◌-◌, ◌≤◌, ◌<◌, ◌^◌, List, [], ◌∷◌, ◌++◌, length, take, drop, sym, ap, subst, ◌∙◌, AllByRecursion, arith, append_assoc, length-append, All, flat_map, length-map, map-append, take_more, take-append-drop, All-from_recursion, Turn, Parts, KeepUpFrom, Round, lines_of, round_ticks, begun_round, last_from, AreTicks, flat_map-push, keep_split, last_from-push, Buffer, at_length, desk_memo, Shared, or_at, turns_of, Traced, round_at, Continues, StillRecords, turns_in, EndsRound, Plays, calls_of_each, rests_before, ticks_before, AreAtRest, IsAtRest, refl, DeskMemo, PassMemo, pass_memo, there, map, append-nil, take_all, some-injective, at_map, tick_of, cases_lt, inl, inr, AllZip-long, losses_in, lines_before, HasPlayed, views_of, passes_of, Caller, Recorder, add-one, at_map_back, some, all_append, flat_map-append, get_elem?}
-use Rattle.trace_replay.proofs.RecordingLemmas.{last_on}
-use Rattle.trace_replay.proofs.RestLemmas.{calls_made, two_told}
-use Rattle.trace_replay.specs.Rounds.{RestsOnce}
-use Rattle.std.proofs.lemmas.List.{drop_all}
-use Rattle.std.proofs.Math.Path.{fun_ext}
-use Rattle.buffer_classes.specs.ByIndex.{AllOf}
-use Rattle.history_spec.specs.{AreMerged}
-use Rattle.trace_replay.proofs.MergeLemmas.{as_many_calls}
-use Rattle.main_function.specs.Standing.{AreAllPasses}
-use Rattle.permit_ring.specs.{ended, resumed}
-use Rattle.trace_replay.proofs.PastLemmas.{newly_past, past_still}
-use Rattle.report_api.specs.Passes.{sizes_of}
+-- Where callers and manager stand before the first round, and one round more.
+use Rattle.trace_replay.proofs.Names.{All, All-from_recursion, AllByRecursion, AllOf, AllZip-long, AreAllPasses, AreAtRest, AreMerged, AreTicks, Asked, Buffer, Caller, ClassSpec, Continues, DeskMemo, EndsRound, HasPasses, HasPlayed, IsAllowedRound, IsAtRest, IsBetween, IsManagerOf, IsNewRecorder, IsOfConfig, IsRecordOf, KeepUpFrom, List, Manager, MayAllBeAsked, MayAsk, MayBeAsked, Parts, Pass, PassMemo, Plays, Recorder, ReleasedMore, ReportTerms, RestsOnce, Round, Shared, StaysSame, StillRecords, Traced, Turn, [], add-one, all_append, all_at, all_split, all_then, ap, append_assoc, arith, at_length, at_map, at_map_back, begun_round, calls_of_each, cases_lt, changes, desk_memo, drop, ended, flat_map, flat_map-append, flat_map-push, fun_ext, get_elem?, giver_memo, givers_in, inl, inr, is_allowed, keep_split, last_from, last_from-push, length, length-append, length-flat_map-take, length-map, line_at, lines_at, lines_before, lines_of, losses_by, losses_in, map, map-append, nil_from_length, or_at, pass_memo, passes_of, refl, released_by, reports, rests_before, resumed, round_at, round_ticks, sets, sizes_of, some, some-injective, subst, sym, take, take-append-drop, take_more, there, tick_of, ticks_before, true, turns_in, turns_of, views_of, ℕ, ◌*◌, ◌++◌, ◌+◌, ◌-◌, ◌<◌, ◌^◌, ◌∙◌, ◌∷◌, ◌≡◌, ◌≤◌}
+use Rattle.buffer_classes.specs.declared.class.Class.{Class}
 use Rattle.report_api.specs.declared.desk.Desk.{Desk}
-use Rattle.buffer_classes.proofs.ByIndexLemmas.{all_then}
-use Rattle.buffer_classes.specs.{giver_memo}
-use Rattle.trace_replay.specs.Past.{ReleasedMore}
-use Rattle.trace_replay.specs.{givers_in, released_by}
-use Rattle.trace_replay.specs.Names.{Asked}
+use Rattle.std.proofs.lemmas.Bool.Decides.{nat_tests}
+use Rattle.trace_replay.proofs.MergeLemmas.{as_many_calls}
+use Rattle.trace_replay.proofs.RestLemmas.{asked_at_rest, released_more, newly_past, past_still, calls_made, two_told}
+use Rattle.trace_replay.proofs.RecordingLemmas.{last_on, offered_is}
+
+module _ (config : Parts) (terms : ReportTerms) (is : IsOfConfig config terms) where
+  may_be_asked : (asked : Asked) → is_allowed config asked ≡ true → MayBeAsked terms asked
+  may_be_asked (reports event count stamp bytes) allowed = let sensor = is.sensors event.0 in grind (arith, nat_tests, allowed, sensor)
+  may_be_asked (changes state) allowed = tt
+  may_be_asked (sets event mode) allowed = let events = is.events in grind (arith, nat_tests, allowed, events)
+
+  -- what a configuration allows may be asked
+  pub all_may_be_asked : (rounds : List Round) → AllByRecursion (IsAllowedRound config) rounds → MayAllBeAsked terms rounds
+  all_may_be_asked rounds all = λ k caller i less within.
+      let round = All-from_recursion (IsAllowedRound config) rounds all k (begun_round 0 [] 0) less in
+      let lines = all_at (AllByRecursion (MayAsk config)) (round_at rounds k).lines caller [] round.asked tt in
+      let asked = All-from_recursion (MayAsk config) (lines_at caller (round_at rounds k)) lines i (changes 0) within in
+      may_be_asked (line_at (lines_at caller (round_at rounds k)) i) asked.1
+
+module _ {C : Type 0} {stands : C → Parts → List Turn → Type 0} {events : C → ℕ} {kept : C → List Buffer} {config : Parts} {shared : Shared} {passes : List Pass}
+    {r0 r : Recorder C} (new : IsNewRecorder stands events kept config shared passes r0) (room : StaysSame stands events kept r0 r) where
+  -- nothing was gathered yet, where room was made
+  pub begins_record : IsRecordOf stands config r
+  begins_record = rw (room.turns_are, room.transcript_is, new.no_turns)
+      (assumption (room.manager_is.stands_then config [] new.manager_is.stands_for_none, new.nothing_sent.no_bytes, new.nothing_sent.no_ends, new.nothing_sent.no_messages))
+
+  module _ (trace : Traced) (callers : List Caller) (are : passes_of callers ≡ passes) (none : losses_by callers ≡ []) (of_config : trace.callers ≡ config.callers) where
+    -- before the first round
+    pub begins : IsBetween events kept shared trace 0 callers r
+    begins =
+        let many : length callers ≡ length passes = sym (length-map callers (λ (c : Caller). c.pass)) ∙ ap length are in
+        record {
+          manager_is = room.manager_is.is_manager shared new.manager_is.is_manager;
+          at_rest = λ i d low.
+              let caller = there callers i low in
+              let is = new.manager_is.making.each i caller.0.pass (rw are at (at_map (λ (c : Caller). c.pass) callers i caller.0 caller.1)) in
+              rw (or_at callers i d caller.0 caller.1) record {
+                is_pass = is.is_pass;
+                listed = rw is.knows record {
+                  played = record { each = tt; calls_are = refl; lost_events_are = refl };
+                  number_is = refl;
+                  losses_are = nil_from_length caller.0.losses.items (grind (arith, length-flat_map-take (λ (c : Caller). c.losses.items) callers i d low, none, or_at callers i d caller.0 caller.1));
+                };
+              };
+          as_many = many ∙ new.manager_is.making.all_made ∙ sym of_config;
+          all = many ∙ new.manager_is.passes_are.all ∙ sym (ap (λ desk. length (desk_memo desk).back) room.manager_is.desk_is);
+          ticks_are = rw (room.turns_are, new.no_turns) refl;
+          small = rw (room.turns_are, new.no_turns) tt;
+          rests_are = room.rests_are ∙ new.manager_is.no_rests;
+          last_is = room.manager_is.last_is ∙ new.manager_is.stands_for_none.tick_is;
+          count_is = room.manager_is.turns_are ∙ new.manager_is.stands_for_none.count_is;
+          released_are = omega (arith, ap (λ desk. length (desk_memo desk).released) room.manager_is.desk_is, ap length new.manager_is.making.untouched.none_released);
+          classes_are = λ i giver at.
+              let its = rw room.manager_is.desk_is at at in
+              let making = new.manager_is.making in
+              let sizes = ap length new.manager_is.made_for.sizes in
+              let spec = there config.classes i (omega (
+                arith,
+                at_length _ i giver its,
+                making.is_desk.givers.all,
+                sizes,
+                length-map config.classes (λ (class : ClassSpec). class.size),
+                length-map shared.classes.classes.items (λ (class : Class). class.size),
+              )) in
+              omega (arith, ap length (making.givers_are i spec.0 giver spec.1 its).untouched.none_released);
+        }
 
 -- ---- ticks
 
@@ -65,11 +115,6 @@ module _ (shared : Shared) (rounds : List Round) (k : ℕ) (callers : List Calle
     };
   }
 
--- a list whose slice was written whole
-pub written_whole : {A : Type 0} (old new : List A) (len : ℕ) → length new ≡ length old → len ≡ length old → take len (new ++ drop (length new) old) ≡ new
-written_whole old new len same is =
-    ap (λ rest. take len (new ++ rest)) (drop_all (length new) old (omega (arith, same))) ∙ rw append-nil (take_all len new (omega (arith, same, is)))
-
 -- callers that were held are still at rest, where each pass goes on
 pub still_at_rest : (shared : Shared) (rounds : List Round) (k : ℕ) (old new : List Caller) {desk : DeskMemo} (offered : ℕ)
     → AreAtRest shared rounds k old → AreAllPasses shared desk (passes_of new) → AllOf (λ i (o n : Caller). n.losses ≡ o.losses) old new
@@ -84,19 +129,10 @@ still_at_rest shared rounds k old new offered rest all same goes i d low =
     let losses = ap (λ losses. losses.items) (same.each i was.0 now.0 was.1 now.1) in
     rw (or_at new i d now.0 now.1) record {
       is_pass = (all.each i now.0.pass (at_map (λ (c : Caller). c.pass) new i now.0 now.1)).0;
-      listed = rw (view, losses) record {
-        played = record { each = its.listed.played.each; calls_are = its.listed.played.calls_are; lost_events_are = its.listed.played.lost_events_are };
-        number_is = its.listed.number_is;
-        losses_are = its.listed.losses_are;
-      };
+      listed = rw (view, losses) (assumption its.listed);
     }
 
 -- ---- one round more
-
--- the pass is that of the caller, and made the calls of these lines
-record IsThere (sizes : List ℕ) (caller : ℕ) (lines : List Asked) (pass : PassMemo) : Type 0 where
-  played : HasPlayed sizes lines pass
-  number_is : pass.number ≡ caller
 
 module _ {C : Type 0} {stands : C → Parts → List Turn → Type 0} {events : C → ℕ} {kept : C → List Buffer} where
   -- what was gathered is so still after a rest
@@ -117,25 +153,27 @@ module _ {C : Type 0} {stands : C → Parts → List Turn → Type 0} {events : 
         let first = beside.advances in
         let last = ends.turn.advances in
         let views = λ (callers : List Caller). length-map callers (λ (c : Caller). pass_memo c.pass) in
-        let many : length new ≡ trace.callers = sym (views new) ∙ ends.turn.all ∙ views mid ∙ mids in
+        let many : length new ≡ trace.callers = sym (views new) ∙ ends.turn.rested.as_many ∙ views mid ∙ mids in
         let turned_more : turns_in ends.turned ≡ turns_in r1 ++ last.turns = rw (last.turns_are, ends.before.turns_are) refl in
         let turns_more : turns_in r4 ≡ turns_in r0 ++ (first.turns ++ last.turns) =
         rw (ends.after.turns_are, turned_more, first.turns_are) (append_assoc (turns_in r0) first.turns last.turns) in
         let more = ticks_more trace.rounds k less in
         let ticks = simp length-append at (ap length more) in
         let ticks_are : map tick_of (turns_in r4) ≡ ticks_before trace.rounds (k + 1) = rw (turns_more, more) (simp map-append (cc (between.ticks_are, first.ticks_are, last.ticks_are))) in
+        let closed = ends.turn.rested.closed in
         let called = λ (callers : List Caller) (its : AreAtRest shared trace.rounds (k + 1) callers) (all : length callers ≡ trace.callers).
         rw all at (calls_made shared (take (k + 1) trace.rounds) 0 callers
         (λ i j caller is at. let same : j ≡ i = omega (arith, is) in rw same (at_rest shared trace.rounds (k + 1) callers its i caller at))) in
-        let pass_at : (i : ℕ) (pass : PassMemo) → get_elem? (views_of mid) i ≡ some pass → IsThere (sizes_of shared) i (lines_before trace.rounds (k + 1) i) pass =
+        let pass_at : (i : ℕ) (pass : PassMemo) → get_elem? (views_of mid) i ≡ some pass → HasPlayed (sizes_of shared) (lines_before trace.rounds (k + 1) i) pass × (pass.number ≡ i) =
         λ i pass at.
         let its = at_map_back (λ (c : Caller). pass_memo c.pass) mid i pass at in
         let listed = (at_rest shared trace.rounds (k + 1) mid played i its.0 its.1).listed in
-        subst (IsThere (sizes_of shared) i (lines_before trace.rounds (k + 1) i)) its.2 (record { played = listed.played; number_is = listed.number_is }) in
+        rw (sym its.2) (listed.played, listed.number_is) in
         let released : released_by r4 ≡ released_by r0 ++ views_of new =
-        ap (λ (d : Desk). (desk_memo d).released) ends.after.manager_is.desk_is ∙ ends.turn.remembers
+        ap (λ (d : Desk). (desk_memo d).released) ends.after.manager_is.desk_is ∙ ends.turn.rested.remembers
         ∙ ap (λ released. released ++ views_of new) (ap (λ (d : Desk). (desk_memo d).released) ends.before.manager_is.desk_is ∙ beside.released_is) in
-        let classes = rw (← ends.after.manager_is.desk_is, ends.before.manager_is.desk_is) at ends.turn.classes_are in
+        let classes = rw (← ends.after.manager_is.desk_is, ends.before.manager_is.desk_is) at
+        (released_more (views_of mid) closed.are_back closed.tied closed.settled closed.classes_released ends.turn.rested.classes_remember) in
         let grown : AllOf (λ i. ReleasedMore (length (views_of mid))) (givers_in r0) (givers_in r4) =
         all_then beside.classes_are classes (λ i old mid new kept did.
         record { more = did.more; released_is = did.released_is ∙ ap (λ released. released ++ did.more) kept; all = did.all }) in
@@ -171,11 +209,11 @@ module _ {C : Type 0} {stands : C → Parts → List Turn → Type 0} {events : 
                     let turned : turns_in r4 ≡ turns_in ends.turned = ends.after.turns_are in
                     let ended : length (ticks_before trace.rounds (k + 1)) ≡ length (turns_in ends.turned) =
                     ap length (sym ticks_are) ∙ length-map (turns_in r4) tick_of ∙ ap length turned in
-                    let merged = (ends.turn.all_calls config made_for rested).merged in
+                    let merged = rw (← ends.turn.gathered) at (closed.all_calls config _ made_for rested.stands_for).merged in
                     let lines = fun_ext (as_many_calls (sizes_of shared) (take (k + 1) trace.rounds) (views_of mid) trace.callers
                     (all_split _ (take (k + 1) trace.rounds) _ (subst (AllByRecursion (λ round. length round.lines ≡ trace.callers)) (sym (take-append-drop (k + 1) trace.rounds)) lines)).0
-                    (views mid ∙ mids) (λ i pass at. (pass_at i pass at).played)) in
-                    let asked = ends.turn.asked (k * trace.callers) (λ i giver at.
+                    (views mid ∙ mids) (λ i pass at. (pass_at i pass at).0)) in
+                    let asked = asked_at_rest (views_of mid) closed.are_back closed.tied closed.settled closed.classes_released ends.turn.rested.classes_remember (k * trace.callers) (λ i giver at.
                     let at = rw ends.before.manager_is.desk_is at at in
                     let old = there (givers_in r0) i (omega (arith, beside.classes_are.as_many, at_length (givers_in r1) i giver at)) in
                     ap length (beside.classes_are.each i old.0 giver old.1 at) ∙ between.classes_are i old.0 old.1) in
@@ -183,7 +221,7 @@ module _ {C : Type 0} {stands : C → Parts → List Turn → Type 0} {events : 
                     rw (same, turned, released, ← between.released_are) (newly_past (released_by r0) (views_of mid) (views_of new)
                     (subst (λ calls. AreMerged config.ring calls (turns_in ends.turned) (losses_in config.ring (views_of mid))) lines merged) ended
                     (views mid ∙ mids)
-                    (λ i pass at. let its = pass_at i pass at in (sym (AllZip-long _ _ pass.log its.played.each), sym its.played.calls_are, its.number_is))
-                    (ends.turn.offered_is config made_for rested) ends.turn.each asked (ends.turn.settled config made_for rested))
+                    (λ i pass at. let its = pass_at i pass at in (sym (AllZip-long _ _ pass.log its.0.each), sym its.0.calls_are, its.1))
+                    (offered_is ends.turn made_for rested) ends.turn.rested.go_on asked (rw (← ends.turn.gathered) at (closed.classes config _ made_for rested.stands_for)))
               ];
         }

@@ -1,7 +1,8 @@
 -- A seat may be seen by several threads, as it may go from one to another: whoever sees it has a part of the whole.
+use Rattle.trace_replay.proofs.Names.{IsSend, IsSync, recorded_sync, sendable, shr_sync, struct_sync, whole-keyless}
+use Rattle.std.proofs.Crossing.{Box-send, Box-sync}
 use denote.RattleType.{RattleType}
 use denote.Ref.{NamedLft}
-use Rattle.trace_replay.proofs.Names.{IsSend, IsSync, sendable, whole-keyless, struct_sync, recorded_sync, shr_sync}
 use denote.Struct.Declared.{shape}
 use Rattle.atomic_table.specs.contracts.shared.Seat as seat
 use Rattle.atomic_table.proofs.shared.Seat.TheSendSync as seats
@@ -14,7 +15,6 @@ use Rattle.buffer_classes.proofs.buffer.CtxBuf.TheSendSync as bufs
 use Rattle.ids_types.proofs.entry.Act.TheSendSync as acts
 use Rattle.report_api.specs.contracts.pass.Pass as pass
 use Rattle.std.proofs.vec.Vec.TheSendSync as vecs
-use Rattle.std.proofs.Crossing.{Box-send, Box-sync}
 use Rattle.counted_slot.proofs.Counted.TheSendSync as slot
 use Rattle.trace_replay.specs.contracts.caller.Caller as caller
 use Rattle.trace_replay.specs.contracts.place.Hand as hand

@@ -1,21 +1,14 @@
 -- What a replay of a trace gives, for whatever order the steps of its threads had.
 use Rattle.std.specs.Prelude.{◌≡◌, ℕ, ◌<◌, ◌≤◌, List, length, map, reverse}
-use Rattle.trace_replay.specs.Names.{Loss, Buffer, IsCausal, Parts, Turn, desk_memo, PassMemo, HaveAllCalls, losses_in, IsMadeFor, came, Shared, Manager}
-use Rattle.buffer_classes.specs.{givers_of}
-use Rattle.history_spec.specs.{AreSettled, ClassRest, IsMerge, Rested, Round}
-use Rattle.law_closing.specs.{calls_by}
-use Rattle.report_api.specs.{asks_back}
-use Rattle.text_spec.specs.JournalReading.{Fits}
-use Rattle.filter_chain.specs.declared.log.Unlogged.{Unlogged}
-use Rattle.filter_chain.specs.History.{count_of, messages_of}
 use Rattle.chain_plain.specs.Telling.{ends_of}
-use Rattle.filter_aggregate.specs.Account.{all_kept}
 use Rattle.event_chain.specs.Chained.{Chained}
 use Rattle.event_chain.specs.Standing.{Stands as ChainStands}
-use Rattle.main_function.specs.Standing.{IsManagerOf, Stands, rests_of}
-use Rattle.trace_replay.specs.Played.{HavePlayed}
-use Rattle.trace_replay.specs.Recording.{turns_in}
+use Rattle.filter_aggregate.specs.Account.{all_kept}
+use Rattle.filter_chain.specs.declared.log.Unlogged.{Unlogged}
+use Rattle.trace_replay.specs.Names.{AreSettled, Buffer, ClassRest, Fits, HaveAllCalls, IsCausal, IsMadeFor, IsManagerOf, IsMerge, Loss, Manager, Parts, PassMemo, Rested, Round, Shared, Stands, Turn, asks_back, calls_by, came, count_of, desk_memo, givers_of, losses_in, messages_of, rests_of}
 use Rattle.trace_replay.specs.Rests.{IsClassRest, all_rests, as_told, rest_after}
+use Rattle.trace_replay.specs.Rounds.{turns_in}
+use Rattle.trace_replay.specs.Standing.{HavePlayed}
 use Rattle.trace_replay.specs.declared.recorder.Recorder.{Recorder}
 use Rattle.trace_replay.specs.declared.replaying.Replayed.{Replayed}
 

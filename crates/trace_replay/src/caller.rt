@@ -1,18 +1,40 @@
-//! A caller of a replay: its pass, and the calls that it lost.
+//! A caller of a replay: its pass, the calls that it lost, and the gate that is told of each.
 ghost use Rattle.std.specs.Prelude.{◌≡◌, ◌+◌, ◌<◌, ◌≤◌, ◌^◌, length, vec_len, vec_capacity, OnOk};
 ghost use Rattle.std.proofs.Common.{◌∙◌};
-ghost use Rattle.history_spec.specs.Rounds.{lines_at, lines_of};
-ghost use Rattle.report_queue.specs.Parts.{queue_positions};
-ghost use Rattle.report_api.specs.Passes.{IsPassOf, pass_memo, sizes_of};
-ghost use Rattle.trace_text.specs.{act_asked, line_asked, round_at};
-ghost use Rattle.trace_replay.specs.Calls.{AsksOnce, CallsOnce, MayBeAsked, control_look, report_look};
-ghost use Rattle.trace_replay.specs.Standing.{HasRoom, IsAtRest, MayAllBeAsked, lines_before, told};
+ghost use Rattle.trace_replay.specs.{AsksOnce, CallsOnce, HasRoom, IsAtRest, IsPassOf, MayAllBeAsked, MayBeAsked, act_asked, control_look, line_asked, lines_at, lines_before, lines_of, pass_memo, queue_positions, report_look, round_at, sizes_of, told};
 
-use crate::gate::Gate;
 use ids_types::{Loss, NoMemory};
 use main_function::HasPass;
 use report_api::{Control, Desk, Look, Pass, Report, Shared};
 use trace_text::{Line, Trace, TraceAct};
+
+/// Is told before and after each call of a caller, and before each turn beside the calls, in the thread that makes it.
+/// A test's gate lets threads wait for each other here.
+pub trait Gate {
+    /// A caller is about to make a call.
+    /// Steps: `OpenGate`: constant. Memory: `OpenGate`: none. Waits: as its gate; `OpenGate`: no. By: no body.
+    fn before(&self, caller: u8, call: u64);
+
+    /// A caller has made a call.
+    /// Steps: `OpenGate`: constant. Memory: `OpenGate`: none. Waits: as its gate; `OpenGate`: no. By: no body.
+    fn after(&self, caller: u8, call: u64);
+
+    /// A turn is about to be made beside the calls of a round.
+    /// Steps: `OpenGate`: constant. Memory: `OpenGate`: none. Waits: as its gate; `OpenGate`: no. By: no body.
+    fn beside(&self, tick: u64);
+}
+
+/// A gate that stops nobody.
+#[derive(Clone, Copy, Debug)]
+pub struct OpenGate;
+
+impl Gate for OpenGate {
+    fn before(&self, _caller: u8, _call: u64) {}
+
+    fn after(&self, _caller: u8, _call: u64) {}
+
+    fn beside(&self, _tick: u64) {}
+}
 
 /// A caller, with its calls that found no event buffer.
 #[derive(Drop)]

@@ -1,6 +1,6 @@
 //! All callers of a replay.
 ghost use Rattle.std.specs.Prelude.{◌≡◌, [], IfOk};
-ghost use Rattle.trace_replay.specs.Standing.{losses_by, passes_of};
+ghost use Rattle.trace_replay.specs.{losses_by, passes_of};
 
 use crate::caller::Caller;
 use ids_types::{Loss, NoMemory};

@@ -35,7 +35,7 @@ impl Gathered {
 }
 
 impl<B: Parcel> Log<B> for Gathered {
-    ghost use Rattle.trace_replay.specs.Recording.{gathers};
+    ghost use Rattle.trace_replay.specs.Rounds.{gathers};
 
     ghost noted = { gathers };
 

@@ -1,13 +1,42 @@
-//! Callers that are handed over for a round, and come back.
+//! Callers that are handed over for a round, and come back, and how long the main function waits for them.
 ghost use Rattle.std.specs.Prelude.{◌≡◌, ◌+◌, ◌<◌, ◌≤◌, [], length, IfOk, OnOk};
 ghost use Rattle.trace_replay.specs.{IsSet, AreAtRest, IsAtRest, lines_before};
 
-use crate::caller::Caller;
-use crate::gate::Gate;
-use crate::patience::Patience;
+use crate::caller::{Caller, Gate};
 use crate::place::{DUE, Hand, PLAYED, pause};
 use crate::stage::Stage;
 use ids_types::NoMemory;
+
+/// For how many looks it is waited at most.
+const MOST_LOOKS: u64 = 4;
+
+/// For how many looks it is waited whether a thread begins with a caller, before its calls are made here. Where one
+/// came in time it is waited longer the next time, and else shorter, down to no wait at all. So threads are given
+/// their time where there are processors for them, and elsewhere next to none is lost. No proof rests on it.
+#[derive(Clone, Copy, Debug)]
+pub(crate) struct Patience {
+    looks: u64,
+}
+
+impl Patience {
+    pub(crate) fn new() -> Patience {
+        Patience { looks: MOST_LOOKS }
+    }
+
+    /// Whether it is at an end after so many looks.
+    pub(crate) fn is_over(&self, looks: u64) -> bool {
+        looks >= self.looks
+    }
+
+    /// A thread came in time, or none did.
+    pub(crate) fn learn(&mut self, came: bool) {
+        self.looks = if came {
+            self.looks.saturating_add(1).min(MOST_LOOKS)
+        } else {
+            self.looks / 2
+        };
+    }
+}
 
 /// Hands all callers over for a round, each with room for what it may lose.
 pub(crate) fn hand_over<G: Gate>(

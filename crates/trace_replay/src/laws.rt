@@ -1,15 +1,7 @@
 //! What the rests of a replay say: each function has a law as its contract, and no body.
 
 ghost use Rattle.std.specs.Prelude.{ℕ, List, ◌≡◌, ◌+◌, ◌-◌, ◌<◌, ◌≤◌, length};
-ghost use Rattle.history_spec.specs.{ClassRest, StandsIn, entries_between, free_at, from_class, greatest, missing_in, needing, too_many, turns_between};
-ghost use Rattle.history_spec.specs.Names.{Entry};
-ghost use Rattle.history_spec.specs.Rounds.{Round};
-ghost use Rattle.ids_config.specs.Parts.{Parts};
-ghost use Rattle.ids_types.specs.Turns.{entries_of};
-ghost use Rattle.text_spec.specs.TraceReading.{AreRounds};
-ghost use Rattle.trace_replay.specs.Replayed.{Gives, IsReplay, IsRestOf, RunManager};
-ghost use Rattle.trace_replay.specs.{LiesInItsRound, lines_before, lines_in, lost_in, rest_by};
-ghost use Rattle.trace_text.specs.TraceView.{round_at};
+ghost use Rattle.trace_replay.specs.{AreRounds, ClassRest, Entry, Gives, IsReplay, IsRestOf, LiesInItsRound, Parts, Round, RunManager, StandsIn, entries_between, entries_of, free_at, from_class, greatest, lines_before, lines_in, lost_in, missing_in, needing, rest_by, round_at, too_many, turns_between};
 
 /// Each call of a caller lies between the turn that ended the round before its line's, where there is one, and the
 /// turn that ended its own. The rest after the one tells that it was not made yet. The rest before the other tells

@@ -11,19 +11,16 @@
 
 mod caller;
 mod callers;
-mod gate;
 mod gathered;
 mod handing;
 mod laws;
-mod patience;
 mod place;
 mod recorder;
 mod replaying;
 mod rounds;
-mod serving;
 mod stage;
 
-pub use gate::{Gate, OpenGate};
+pub use caller::{Gate, OpenGate};
 pub use laws::{
     a_call_lies_in_its_round, an_entry_stands_in_its_round, no_round_loses_what_fits,
     no_round_misses_what_fits,

@@ -42,7 +42,7 @@ pub(crate) struct Part {
 }
 
 impl Fits for Hand {
-    ghost use Rattle.trace_replay.specs.Hands.{StandsAt};
+    ghost use Rattle.trace_replay.specs.Standing.{StandsAt};
 
     type Tag = Part;
 

@@ -1,15 +1,9 @@
 //! The manager of a replay, with what is gathered of its turns.
 ghost use Rattle.std.specs.Prelude.{◌≡◌, ◌≤◌, ◌<◌, ◌^◌, ◌∷◌, [], map, OnOk};
 ghost use Rattle.std.specs.List.{All};
-ghost use Rattle.history_spec.specs.Orders.{KeepUpFrom};
-ghost use Rattle.report_api.specs.{desk_memo, pass_memo};
-ghost use Rattle.main_function.specs.Standing.{AreAllPasses, IsManagerOf, last_of, turns_of};
-ghost use Rattle.buffer_classes.specs.ByIndex.{AllOf};
-ghost use Rattle.trace_replay.specs.Recording.{Closes, Continues, StaysSame, TurnsAtRest};
-ghost use Rattle.trace_replay.specs.Standing.{passes_of, views_of};
+ghost use Rattle.trace_replay.specs.{AllOf, AreAllPasses, Closes, Continues, IsManagerOf, KeepUpFrom, StaysSame, TurnsAtRest, desk_memo, last_of, pass_memo, passes_of, turns_of, views_of};
 
-use crate::caller::Caller;
-use crate::gate::Gate;
+use crate::caller::{Caller, Gate};
 use crate::gathered::Gathered;
 use filter_chain::{ParcelChain, Transcript};
 use ids_types::NoMemory;

@@ -1,12 +1,9 @@
 //! The replay of a trace.
 ghost use Rattle.std.specs.Prelude.{◌≡◌, [], length, IfOk};
-ghost use Rattle.text_spec.specs.TraceReading.{AreRounds};
-ghost use Rattle.main_function.specs.{without_log};
-ghost use Rattle.trace_replay.specs.{IsNewRecorder, IsSet};
-ghost use Rattle.trace_replay.specs.Replayed.{IsReplay, IsReplayOver, given, gives};
+ghost use Rattle.trace_replay.specs.{AreRounds, IsNewRecorder, IsReplay, IsReplayOver, IsSet, given, gives, without_log};
 
+use crate::caller::Gate;
 use crate::callers::{callers_of, part};
-use crate::gate::Gate;
 use crate::gathered::Gathered;
 use crate::recorder::Recorder;
 use crate::rounds::play_beside;

@@ -2,19 +2,12 @@
 ghost use Rattle.std.specs.Prelude.{◌≡◌, ℕ, ◌+◌, ◌<◌, ◌≤◌, ◌^◌, length, OnOk};
 ghost use Rattle.std.specs.List.{All};
 ghost use Rattle.std.specs.Thread.{IsSync};
-ghost use Rattle.history_spec.specs.Orders.{KeepUpFrom};
-ghost use Rattle.report_api.specs.Desks.{desk_memo};
-ghost use Rattle.main_function.specs.Standing.{IsManagerOf, last_of};
-ghost use Rattle.trace_text.specs.TraceView.{round_at};
-ghost use Rattle.trace_replay.specs.{Continues, EndsRound, IsBetween, Plays, IsSet, AreAtRest};
+ghost use Rattle.trace_replay.specs.{AreAtRest, Continues, EndsRound, IsBetween, IsManagerOf, IsSet, KeepUpFrom, Plays, desk_memo, last_of, round_at};
 
-use crate::caller::Caller;
-use crate::gate::Gate;
-use crate::handing::{hand_over, take_back};
-use crate::patience::Patience;
+use crate::caller::{Caller, Gate};
+use crate::handing::{Patience, hand_over, take_back};
 use crate::recorder::Recorder;
-use crate::serving::serve_all;
-use crate::stage::Stage;
+use crate::stage::{Stage, serve_all};
 use filter_chain::ParcelChain;
 use ids_types::NoMemory;
 use report_api::CtxBuf;

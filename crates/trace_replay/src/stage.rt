@@ -1,14 +1,14 @@
-//! What all threads of a replay share.
+//! What all threads of a replay share, and the threads of the callers, which last through it.
 ghost use Rattle.std.specs.Prelude.{◌≡◌, ◌<◌, ◌≤◌, length, IfOk};
-ghost use Rattle.report_queue.specs.Parts.{queue_positions};
-ghost use Rattle.trace_replay.specs.{StandsAt, ArePlaces, MayAllBeAsked, IsSet};
+ghost use Rattle.trace_replay.specs.{ArePlaces, IsSet, MayAllBeAsked, StandsAt, queue_positions};
 
-use crate::gate::Gate;
-use crate::place::{Hand, Place};
+use crate::caller::Gate;
+use crate::place::{DUE, Hand, PLAYED, Place, pause};
 use ids_types::NoMemory;
 use report_api::Shared;
 use std::alloc::Global;
 use std::sync::atomic::{AtomicBool, Ordering};
+use std::thread::{Threads, for_each_mut};
 use trace_text::Trace;
 
 /// What callers report to and play, the places at which they are handed over, and whether the replay is over.
@@ -103,4 +103,57 @@ fn places_for(alloc: Global, shared: &Shared, trace: &Trace) -> Result<Vec<Place
         places.push_reserved(Place::new(shared, trace, number));
     }
     Ok(places)
+}
+
+/// Serves all places, by a thread for each, until the replay is over.
+pub(crate) fn serve_all<R: Threads + Sync, G: Gate + Sync>(rt: &R, stage: &Stage<'_, G>)
+    requires { IsSet stage.now }
+{
+    let threads = stage.places.len();
+    if threads == 0 {
+        return;
+    }
+    let mut numbers = [0u8; 32];
+    for_each_mut(
+        rt,
+        &mut numbers[..threads],
+        threads,
+        &|i, _: &mut u8|
+            requires { (i < length stage.now.places.items) × IsSet stage.now }
+        { serve(stage, i as u8) },
+    );
+}
+
+/// Makes the calls of a caller whenever it is due at its place, until the replay is over.
+fn serve<G: Gate>(stage: &Stage<'_, G>, number: u8)
+    requires set { IsSet stage.now }
+    requires number { number < stage.now.trace.now.callers }
+{
+    let mut looks = 0u64;
+    for _ in 0..u64::MAX {
+        if stage.is_over() {
+            return;
+        }
+        if play_due(stage, number) {
+            looks = 0;
+        } else {
+            pause(looks);
+            looks = looks.saturating_add(1);
+        }
+    }
+}
+
+/// Makes the calls of a caller, if it is due at its place.
+fn play_due<G: Gate>(stage: &Stage<'_, G>, number: u8) -> bool
+    requires set { IsSet stage.now }
+    requires number { number < stage.now.trace.now.callers }
+{
+    let place = &stage.places[number as usize];
+    if place.seen() != DUE {
+        return false;
+    }
+    let Some(hand) = place.take(DUE) else {
+        return false;
+    };
+    place.put(stage.played(number, hand), PLAYED).is_ok()
 }

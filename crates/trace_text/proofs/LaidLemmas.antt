@@ -1,5 +1,5 @@
 -- Rounds as they lie in memory, one after the other: each is read from its places, and what a change leaves.
-use Rattle.trace_text.proofs.Names.{◌≡◌, ℕ, suc, ◌+◌, ◌-◌, ◌<◌, ◌≤◌, ◌^◌, List, [], ◌∷◌, ◌++◌, length, take, drop, set, get_or, refl, sym, ap, subst, ◌∙◌, inl, inr, arith, length-append, length-set, get_or-set_same, get_or-set_other, drop-cons, flat_map, replicate, slice_index, slice_range, drop_at, get_or_append_left, get_or_push, length-replicate, take-append-drop, take-append-le, take_all, take_at, take_more, lines_at, lines_of, last_tick, flat_map-push, all_append, all_split, by_last, last_tick-push, with_last-push, asked_more, begun_round, ended_at, with_last, AreTicks, Asked, Round, RoundEnd, IsEnd, Laid, Lie, Traced, at_start, end_at, lines_between, round_at, round_between, rounds_laid, laid_of, cases_lt, common_steps, All-from_recursion}
+use Rattle.trace_text.proofs.Names.{◌≡◌, ℕ, suc, ◌+◌, ◌-◌, ◌<◌, ◌≤◌, ◌^◌, List, [], ◌∷◌, ◌++◌, length, take, drop, set, get_or, refl, sym, ap, subst, ◌∙◌, inl, inr, arith, length-append, length-set, get_or-set_same, get_or-set_other, drop-cons, flat_map, replicate, slice_index, slice_range, drop_at, get_or_append_left, get_or_push, length-replicate, take-append-drop, take-append-le, take_all, take_at, take_more, lines_at, lines_of, last_tick, flat_map-push, all_append, all_split, by_last, last_tick-push, with_last-push, asked_more, begun_round, ended_at, with_last, AreTicks, Asked, Round, RoundEnd, IsEnd, Laid, Lie, Traced, at_start, end_at, lines_between, round_at, round_between, rounds_laid, laid_of, cases_lt, common_steps, All-from_recursion, last_from}
 use Rattle.std.proofs.lemmas.List.FromFn.{fill_by_all}
 use Rattle.trace_text.specs.declared.trace.Trace.TheInside.{Inside}
 use Rattle.trace_text.specs.TraceView.{IsSound, traced}
@@ -139,7 +139,7 @@ module _ (laid : Laid) (front : List Round) (round : Round) (lie : Lie laid (fro
             (rw (place, get_or-set_same laid.ends (length laid.ends - 1) end at_start (omega (arith, lie.as_many))) ends);
       }
 
-  line_lies : (caller : ℕ) (asked : Asked) (count : ℕ) → caller < length laid.lines → caller < 32 → count ≡ slice_index (last_end laid).lines caller + 1
+  pub line_lies : (caller : ℕ) (asked : Asked) (count : ℕ) → caller < length laid.lines → caller < 32 → count ≡ slice_index (last_end laid).lines caller + 1
       → Lie (and_line laid caller asked count) (front ++ asked_more caller asked round ∷ [])
   line_lies caller asked count there few is =
       let lists = all_split (λ (r : Round). length r.lines ≡ length laid.lines) front (round ∷ []) lie.callers in
@@ -149,18 +149,19 @@ module _ (laid : Laid) (front : List Round) (round : Round) (lie : Lie laid (fro
       changed now _ _ refl (length-set round.lines caller _) (length-set laid.lines caller _) its
       (grind (arith, common_steps, is, ends_last, its, all_counted laid (front ++ round ∷ []) lie, last_tick-push, flat_map-push (λ (r : Round). r.beside) front))
 
-  end_lies : (tick : ℕ) → Lie (and_tick laid tick) (front ++ ended_at tick round ∷ [])
+  pub end_lies : (tick : ℕ) → Lie (and_tick laid tick) (front ++ ended_at tick round ∷ [])
   end_lies tick =
       let its : (caller : ℕ) → lines_of caller (front ++ round ∷ []) ≡ lines_of caller (front ++ ended_at tick round ∷ []) = λ caller. grind (arith, flat_map-push (lines_at caller) front) in
       changed (ended_at tick round) laid.lines _ refl refl refl (λ caller. lie.lines caller ∙ its caller)
       (grind (arith, ends_last, its, last_tick-push, flat_map-push (λ (r : Round). r.beside) front))
 
-module _ (laid : Laid) (rounds : List Round) (lie : Lie laid rounds) (some : 0 < length rounds) where
-  -- a line more in the last round, and another last tick
-  pub line_pushed : (caller : ℕ) (asked : Asked) (count : ℕ) → caller < length laid.lines → caller < 32 → count ≡ slice_index (last_end laid).lines caller + 1
-      → Lie (and_line laid caller asked count) (with_last (asked_more caller asked) rounds)
-  line_pushed caller asked count there few is =
-      by_last (λ rs. Lie laid rs → Lie (and_line laid caller asked count) (with_last (asked_more caller asked) rs)) (λ front round it. rw with_last-push (line_lies laid front round it caller asked count there few is)) rounds some lie
+-- a change of the last round, whatever rounds are before it
+pub last_lies : (laid now : Laid) (change : Round → Round) (rounds : List Round) → Lie laid rounds → 0 < length rounds → ((front : List Round) (round : Round) → Lie laid (front ++ round ∷ []) → Lie now (front ++ change round ∷ []))
+    → Lie now (with_last change rounds)
+last_lies laid now change rounds lie some each = by_last (λ rs. Lie laid rs → Lie now (with_last change rs)) (λ front round it. rw with_last-push (each front round it)) rounds some lie
 
-  pub end_changed : (tick : ℕ) → Lie (and_tick laid tick) (with_last (ended_at tick) rounds)
-  end_changed tick = by_last (λ rs. Lie laid rs → Lie (and_tick laid tick) (with_last (ended_at tick) rs)) (λ front round it. rw with_last-push (end_lies laid front round it tick)) rounds some lie
+-- the last of some ticks by its place
+pub last_from_at : (tick : ℕ) (ticks : List ℕ) (d : ℕ) → 0 < length ticks → get_or ticks (length ticks - 1) d ≡ last_from tick ticks
+last_from_at tick [] d some = absurd (omega arith)
+last_from_at tick (next ∷ []) d some = refl
+last_from_at tick (next ∷ other ∷ ticks) d some = grind (arith, common_steps, last_from_at next (other ∷ ticks) d (omega arith))

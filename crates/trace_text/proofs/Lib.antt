@@ -7,4 +7,3 @@ pub mod PastLemmas
 pub mod PrintingLemmas
 pub mod RowsLemmas
 pub mod StandsLemmas
-pub mod TicksLemmas

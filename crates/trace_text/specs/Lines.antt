@@ -1,13 +1,15 @@
--- What the lines of callers ask for.
-use Rattle.std.specs.Prelude.{ℕ, ◌≤◌, List, [], map, slice_index_or, slice_range, Vec, ⊤}
+-- What the lines of callers ask for, and their text.
+use Rattle.std.specs.Prelude.{ℕ, ◌≤◌, List, [], ◌∷◌, ◌++◌, length, map, decimal, slice_index_or, slice_range, Vec, ⊤}
 use Rattle.std.specs.List.{AllByRecursion}
 use Rattle.std.specs.declared.alloc.Global.{Global}
-use Rattle.text_spec.specs.TraceText.{Asked, reports, changes, sets}
-use Rattle.trace_text.specs.declared.line.Line.{Line}
-use Rattle.trace_text.specs.declared.line.TraceAct.{TraceAct}
-use Rattle.trace_text.specs.declared.line.TraceAct.TheVariants as acts
-use Rattle.trace_text.specs.declared.row.Row.{Row}
-use Rattle.trace_text.specs.declared.row.Row.TheVariants as rows
+use Rattle.text_spec.specs.TraceText.{Asked, reports, changes, sets, TraceLine, calls, trace_line_for}
+use Rattle.text_spec.specs.Words.{space, text_of}
+use Rattle.trace_text.specs.declared.rows.Line.{Line}
+use Rattle.trace_text.specs.declared.rows.TraceAct.{TraceAct}
+use Rattle.trace_text.specs.declared.rows.TraceAct.TheVariants as acts
+use Rattle.trace_text.specs.declared.rows.Row.{Row}
+use Rattle.trace_text.specs.declared.rows.Row.TheVariants as rows
+use Rattle.trace_text.specs.declared.rows.CallerRows.TheInside.{Inside}
 
 -- what an act asks for, with its context as bytes
 abbrev pub act_asked : TraceAct → Asked
@@ -48,3 +50,24 @@ AreWithin n callers = AllByRecursion (λ (rows : Vec Row Global). AllByRecursion
 -- line i of some, from 0
 abbrev pub line_at : List Asked → ℕ → Asked
 line_at lines i = slice_index_or lines i (changes 0)
+
+-- what each caller asks for
+abbrev pub asked_of : Inside → List (List Asked)
+asked_of r = callers_asked r.bytes.items r.callers.items
+
+-- the contexts of all lines are there
+abbrev pub AreSound : Inside → Type 0
+AreSound r = AreWithin (length r.bytes.items) r.callers.items
+
+-- the text of lines
+abbrev pub lines_text : List TraceLine → List ℕ
+lines_text lines = text_of (map trace_line_for lines)
+
+-- the text of a caller's lines
+abbrev pub caller_text : ℕ → List Asked → List ℕ
+caller_text caller lines = lines_text (map (calls caller) lines)
+
+-- ticks, each after a space
+abbrev pub ticks_text : List ℕ → List ℕ
+ticks_text [] = []
+ticks_text (tick ∷ ticks) = (space ∷ decimal tick) ++ ticks_text ticks

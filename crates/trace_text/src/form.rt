@@ -1,32 +1,28 @@
-//! The forms of a trace's lines.
+//! The forms of a trace's lines, and a line from its raw parts, once they are in their ranges.
 
 ghost use Rattle.std.specs.Prelude.{◌≡◌, ◌∷◌, length, option_map, IfOk};
 ghost use Rattle.text_spec.specs.{numbers_in, bytes_in, behind, told_in_one, asked_mode_form, asked_report_form, asked_state_form, round_end_form, trace_forms};
-ghost use Rattle.trace_text.specs.RawLines.{context_told, line_told, where_all};
+ghost use Rattle.trace_text.specs.Lines.{line_asked};
+ghost use Rattle.trace_text.specs.Reading.{act_told, context_told, line_told, where_all, IsTyped};
 
-use ids_types::{Mode, NoMemory, Stamp};
+use crate::rows::{Line, TraceAct};
+use ids_types::{EventIndex, Mode, NoMemory, Stamp};
 use text_spec::{HexText, Words};
 
 /// What a caller asks for, its numbers not yet in their ranges and its context's bytes still as text.
 #[derive(Debug, Drop)]
 pub(crate) enum RawAct<'a> {
-    Report {
-        event: u64,
-        count: u64,
-        stamp: Option<Stamp>,
-        context: Option<HexText<'a>>,
-    },
+    /// Of an event, with its count, its timestamp and its context.
+    Report(u64, u64, Option<Stamp>, Option<HexText<'a>>),
     State(u64),
-    SetMode {
-        event: u64,
-        mode: Mode,
-    },
+    /// Of an event.
+    SetMode(u64, Mode),
 }
 
-/// A line, but for one that opens a round.
+/// A line, but for one that opens a round: what a caller asks for, or the tick of a close.
 #[derive(Debug, Drop)]
 pub(crate) enum RawLine<'a> {
-    Call { caller: u64, act: RawAct<'a> },
+    Call(u64, RawAct<'a>),
     Close(u64),
 }
 
@@ -59,15 +55,8 @@ fn report_of(words: Words<'_>) -> Option<RawLine<'_>>
     let (count, words) = words.any_number()?;
     let (stamp, words) = words.stamp()?;
     let context = context_of(words.text()?)?;
-    Some(RawLine::Call {
-        caller,
-        act: RawAct::Report {
-            event,
-            count,
-            stamp,
-            context,
-        },
-    })
+    let act = RawAct::Report(event, count, stamp, context);
+    Some(RawLine::Call(caller, act))
 }
 
 /// The words after `S`.
@@ -76,10 +65,7 @@ fn state_of(words: Words<'_>) -> Option<RawLine<'_>>
 {
     let (caller, words) = words.any_number()?;
     let (state, words) = words.any_number()?;
-    words.ended(RawLine::Call {
-        caller,
-        act: RawAct::State(state),
-    })
+    words.ended(RawLine::Call(caller, RawAct::State(state)))
 }
 
 /// The words after `M`.
@@ -89,10 +75,7 @@ fn setting_of(words: Words<'_>) -> Option<RawLine<'_>>
     let (caller, words) = words.any_number()?;
     let (event, words) = words.any_number()?;
     let (mode, words) = words.mode()?;
-    words.ended(RawLine::Call {
-        caller,
-        act: RawAct::SetMode { event, mode },
-    })
+    words.ended(RawLine::Call(caller, RawAct::SetMode(event, mode)))
 }
 
 /// The words after `E`.
@@ -129,4 +112,39 @@ pub(crate) fn read_ticks(words: Words<'_>, ticks: &mut Vec<u64>) -> Result<bool,
         rest = next;
     }
     Ok(true)
+}
+
+/// The line, whose context is decoded into the front of `room`.
+pub(crate) fn line_for<'a>(act: &RawAct<'_>, room: &'a mut Vec<u8>) -> Result<Line<'a>, NoMemory>
+    requires { IsTyped (act_told act.now) }
+    ensures { IfOk result (λ line. line_asked line ≡ act_told act.now) }
+{
+    let act = match act {
+        RawAct::Report(event, count, stamp, context) => TraceAct::Report {
+            event: EventIndex(*event as u16),
+            count: *count as u16,
+            stamp: *stamp,
+            context: decoded(context, room)?,
+        },
+        RawAct::State(state) => TraceAct::State(*state as u8),
+        RawAct::SetMode(event, mode) => TraceAct::SetMode {
+            event: EventIndex(*event as u16),
+            mode: *mode,
+        },
+    };
+    Ok(Line { act })
+}
+
+/// The bytes of a context, in the front of `room`.
+fn decoded<'a>(context: &Option<HexText<'_>>, room: &'a mut Vec<u8>) -> Result<&'a [u8], NoMemory>
+    ensures { IfOk result (λ bytes. bytes.now ≡ context_told context.now) }
+{
+    let Some(text) = context else {
+        return Ok(&[]);
+    };
+    if room.len() < text.len() {
+        room.resize(text.len(), 0)?;
+    }
+    let len = text.decode(room);
+    Ok(&room[..len])
 }

@@ -10,21 +10,16 @@
 
 mod form;
 mod laws;
-mod line;
-mod merges;
 mod printing;
 mod ranges;
 mod reader;
 mod reading;
-mod row;
 mod rows;
-mod taking;
 mod trace;
 
-pub use laws::which_lines_of_a_trace_have_a_form;
-pub use line::{Line, TraceAct};
-pub use merges::a_merge_fits_its_configuration;
+pub use laws::{a_merge_fits_its_configuration, which_lines_of_a_trace_have_a_form};
 pub use printing::print;
 pub use reading::read;
+pub use rows::{Line, TraceAct};
 pub use text_spec::TextFault as TraceFault;
 pub use trace::{Trace, TraceRoom};

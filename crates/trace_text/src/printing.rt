@@ -4,10 +4,10 @@ ghost use Rattle.std.specs.Prelude.{◌≡◌, ◌<◌, ◌≤◌, ◌++◌, ◌
 ghost use Rattle.std.specs.List.{AllByRecursion};
 ghost use Rattle.ids_config.specs.Parts.{Parts};
 ghost use Rattle.history_spec.specs.Rounds.{lines_at};
-ghost use Rattle.text_spec.specs.{bytes_word, ended_line, stamp_text, MayAsk, trace_in, asked_fields, calls, closes, opens, round_told, trace_fields, trace_text, space};
+ghost use Rattle.text_spec.specs.{bytes_word, ended_line, stamp_text, MayAsk, trace_in, asked_fields, opens, round_told, trace_fields, trace_text, space};
 ghost use Rattle.trace_text.specs.{line_asked, caller_text, lines_text, ticks_text, round_at};
 
-use crate::line::{Line, TraceAct};
+use crate::rows::{Line, TraceAct};
 use crate::trace::Trace;
 use ids_types::{EventIndex, NoMemory, Stamp};
 use std::alloc::Global;
@@ -16,7 +16,7 @@ use text_spec::{push_bytes, push_field, push_mode, push_stamp};
 /// The text of a trace: its rounds, the lines of each by caller.
 /// Steps: the bytes of the text, and one step for each caller of each round, at most 32. Memory: may answer want of
 /// memory. By: `text`; read off.
-#[tactic(auto, using(crate::proofs::PrintingLemmas::text_again))]
+#[tactic(auto, using(crate::proofs::PrintingLemmas::pushes, crate::proofs::PrintingLemmas::text_again))]
 pub fn print(alloc: Global, trace: &Trace) -> Result<Vec<u8>, NoMemory>
     ensures text { IfOk result (λ text. text.items ≡ trace_text trace.now.rounds) }
     // Under each configuration that has its callers and allows each of its lines, the text is read as it.
@@ -24,15 +24,6 @@ pub fn print(alloc: Global, trace: &Trace) -> Result<Vec<u8>, NoMemory>
         length config.events ≤ 256 → config.callers ≡ trace.now.callers →
         AllByRecursion (λ round. AllByRecursion (AllByRecursion (MayAsk config)) round.lines) trace.now.rounds →
         trace_in config text.items ≡ Ok trace.now.rounds) }
-{
-    // No tick of a trace is below the one before it.
-    let _rounds = trace.rounds();
-    print_rounds(alloc, trace)
-}
-
-#[tactic(auto, using(crate::proofs::PrintingLemmas::pushes))]
-fn print_rounds(alloc: Global, trace: &Trace) -> Result<Vec<u8>, NoMemory>
-    ensures { IfOk result (λ text. text.items ≡ trace_text trace.now.rounds) }
 {
     let mut text = Vec::new(alloc);
     for round in 0..trace.rounds() {
@@ -53,7 +44,9 @@ fn push_round(out: &mut Vec<u8>, trace: &Trace, round: u64) -> Result<(), NoMemo
     for caller in 0..trace.callers() {
         push_caller(out, trace, round, caller)?;
     }
-    push_closing(out, trace.after(round))
+    out.push(b'E')?;
+    push_field(out, trace.after(round))?;
+    Ok(out.push(b'\n')?)
 }
 
 /// Appends `N` and the ticks as a line.
@@ -75,15 +68,6 @@ fn push_ticks(out: &mut Vec<u8>, ticks: &[u64]) -> Result<(), NoMemory>
         push_field(out, *tick)?;
     }
     Ok(())
-}
-
-/// Appends `E TICK` as a line.
-fn push_closing(out: &mut Vec<u8>, tick: u64) -> Result<(), NoMemory>
-    ensures { OnOk result (out.new.items ≡ out.old.items ++ ended_line (trace_fields (closes tick))) }
-{
-    out.push(b'E')?;
-    push_field(out, tick)?;
-    Ok(out.push(b'\n')?)
 }
 
 /// Appends the lines of a caller in a round.

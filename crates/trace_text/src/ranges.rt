@@ -3,7 +3,7 @@
 ghost use Rattle.std.specs.Prelude.{◌≡◌, ◌≤◌, length};
 ghost use Rattle.std.specs.List.{list_all};
 ghost use Rattle.text_spec.specs.{has_event as event_is, is_act as act_is, is_tick as tick_is, act_asked, keep_up as ticks_keep_up, last_from as last_of_ticks};
-ghost use Rattle.trace_text.specs.RawLines.{act_told};
+ghost use Rattle.trace_text.specs.Reading.{act_told};
 
 use crate::form::RawAct;
 use ids_config::Config;
@@ -12,21 +12,10 @@ use text_spec::is_sensor;
 /// The greatest tick.
 const MAX_TICK: u64 = 1 << 62;
 
-pub(crate) fn is_tick(tick: u64) -> bool
-    ensures { result ≡ tick_is tick }
-{
-    tick <= MAX_TICK
-}
-
 pub(crate) fn are_ticks(ticks: &[u64]) -> bool
     ensures { result ≡ list_all tick_is ticks.now }
 {
-    for &tick in ticks {
-        if !is_tick(tick) {
-            return false;
-        }
-    }
-    true
+    ticks.iter().all(|&tick| tick <= MAX_TICK)
 }
 
 /// No tick is below the one before it, the first not below this one.
@@ -44,7 +33,7 @@ pub(crate) fn keep_up(least: u64, ticks: &[u64]) -> bool
 }
 
 /// The last of some ticks, this one where there are none.
-#[tactic(auto, using(crate::proofs::TicksLemmas::last_from_at))]
+#[tactic(auto, using(crate::proofs::LaidLemmas::last_from_at))]
 pub(crate) fn last_from(tick: u64, ticks: &[u64]) -> u64
     ensures { result ≡ last_of_ticks tick ticks.now }
 {
@@ -59,9 +48,9 @@ pub(crate) fn is_act(act: &RawAct<'_>) -> bool
     ensures { result ≡ act_is (act_asked (act_told act.now)) }
 {
     match act {
-        RawAct::Report { count, .. } => 1 <= *count && *count <= 65535,
+        RawAct::Report(_, count, ..) => 1 <= *count && *count <= 65535,
         RawAct::State(state) => *state <= 255,
-        RawAct::SetMode { .. } => true,
+        RawAct::SetMode(..) => true,
     }
 }
 
@@ -72,8 +61,8 @@ pub(crate) fn has_event(config: &Config, act: &RawAct<'_>) -> bool
 {
     let events = config.parts().events.len() as u64;
     match act {
-        RawAct::Report { event, .. } => is_sensor(config, events, *event),
+        RawAct::Report(event, ..) => is_sensor(config, events, *event),
         RawAct::State(_) => true,
-        RawAct::SetMode { event, .. } => *event < events,
+        RawAct::SetMode(event, _) => *event < events,
     }
 }

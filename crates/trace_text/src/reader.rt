@@ -3,9 +3,8 @@
 ghost use Rattle.std.specs.Prelude.{◌≡◌, ◌<◌, true, length, IfOk};
 ghost use Rattle.text_spec.specs.TraceFaults.{no_rounds};
 
-use crate::form::{RawAct, RawLine, line_of, read_ticks};
-use crate::ranges::{are_ticks, has_event, is_act, is_tick, keep_up, last_from};
-use crate::taking::line_for;
+use crate::form::{RawAct, RawLine, line_for, line_of, read_ticks};
+use crate::ranges::{are_ticks, has_event, is_act, keep_up, last_from};
 use crate::trace::Trace;
 use ids_config::{Config, asks};
 use ids_types::NoMemory;
@@ -30,9 +29,7 @@ pub(crate) struct Reader<'a> {
 impl<'a> Reader<'a> {
     ghost use Rattle.std.specs.Prelude.{◌≡◌, ◌<◌, ◌≤◌, length, option_map, IfOk, OnOk};
     ghost use Rattle.text_spec.specs.{numbers_in, Took, after_line, past_with, asked_fault, closing_fault, no_rounds, opening_fault, trace_grammar, calls, closes, opens};
-    ghost use Rattle.trace_text.specs.Answers.{added};
-    ghost use Rattle.trace_text.specs.RawLines.{act_told};
-    ghost use Rattle.trace_text.specs.ReaderView.{past_of};
+    ghost use Rattle.trace_text.specs.Reading.{act_told, added, past_of};
 
     pub(crate) fn new(alloc: Global, config: &'a Config) -> Result<Reader<'a>, NoMemory>
         ensures past { IfOk result (λ r. past_of r ≡ no_rounds) }
@@ -61,7 +58,7 @@ impl<'a> Reader<'a> {
         }
         match line_of(kind, words) {
             None => Err(LineFault::Fault(1)),
-            Some(RawLine::Call { caller, act }) => self.ask(caller, &act),
+            Some(RawLine::Call(caller, act)) => self.ask(caller, &act),
             Some(RawLine::Close(tick)) => self.close(tick),
         }
     }
@@ -123,17 +120,11 @@ impl<'a> Reader<'a> {
             (closing_fault (past_of self.old) tick)) result }
         ensures config { self.new.config.now ≡ self.old.config.now }
     {
-        self.check_closing(tick)?;
+        asks(2, self.is_open)?;
+        asks(3, are_ticks(&[tick]))?;
+        asks(5, self.trace.last_tick() <= tick)?;
         self.trace.end_round(tick);
         self.is_open = false;
         Ok(())
-    }
-
-    fn check_closing(&self, tick: u64) -> Result<(), u8>
-        ensures { result ≡ closing_fault (past_of self.now) tick }
-    {
-        asks(2, self.is_open)?;
-        asks(3, is_tick(tick))?;
-        asks(5, self.trace.last_tick() <= tick)
     }
 }

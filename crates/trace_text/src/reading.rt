@@ -35,7 +35,7 @@ fn read_trace(alloc: Global, text: &[u8], config: &Config) -> Result<Trace, Text
 impl<'a> LineReader for Reader<'a> {
     ghost use Rattle.ids_config.specs.Parts.{Parts};
     ghost use Rattle.text_spec.specs.{PastRounds, trace_grammar, TraceLine};
-    ghost use Rattle.trace_text.specs.ReaderView.{config_of, past_of};
+    ghost use Rattle.trace_text.specs.Reading.{config_of, past_of};
 
     ghost Past = { PastRounds };
 

@@ -1,13 +1,96 @@
-//! The lines of all callers as they lie in memory.
+//! The lines of callers, and how those of all callers lie in memory.
 
-ghost use Rattle.std.specs.Prelude.{◌≡◌, ◌<◌, ◌∷◌, ◌++◌, [], length, set, replicate, slice_index_or, IfOk, OnOk, OnErr};
-ghost use Rattle.trace_text.specs.Lines.{line_asked, line_at};
+ghost use Rattle.std.specs.Prelude.{◌≡◌, ℕ, ◌+◌, ◌<◌, List, ◌∷◌, ◌++◌, [], length, set, replicate, slice_index_or, IfOk, OnOk, OnErr};
+ghost use Rattle.trace_text.specs.Lines.{bytes_asked, line_asked, line_at, row_asked, IsRowWithin};
 
-use crate::line::Line;
-use crate::row::Row;
-use ids_types::NoMemory;
+use ids_types::{EventIndex, Mode, NoMemory, Stamp};
 use std::alloc::Global;
 use std::marker::Model;
+
+/// A line of a caller: what it asks for.
+#[derive(Clone, Copy, Debug)]
+pub struct Line<'a> {
+    pub act: TraceAct<'a>,
+}
+
+impl<'a> Line<'a> {
+    /// The context of a report, no bytes where there is none.
+    pub(crate) fn context(&self) -> &'a [u8]
+        ensures { result.now ≡ bytes_asked (line_asked self.now) }
+    {
+        match self.act {
+            TraceAct::Report { context, .. } => context,
+            TraceAct::State(_) | TraceAct::SetMode { .. } => &[],
+        }
+    }
+}
+
+/// What a caller asks for.
+#[derive(Clone, Copy, Debug)]
+pub enum TraceAct<'a> {
+    /// A report of a security event, seen `count` times, with no bytes where it has no context.
+    Report {
+        event: EventIndex,
+        count: u16,
+        stamp: Option<Stamp>,
+        context: &'a [u8],
+    },
+    /// A change of the state that the block state filter asks.
+    State(u8),
+    /// A setting of an event's reporting mode.
+    SetMode {
+        event: EventIndex,
+        mode: Mode,
+    },
+}
+
+/// A line of a caller. Its context lies between two places of the bytes of all lines.
+#[derive(Clone, Copy, Debug)]
+pub(crate) enum Row {
+    /// Of an event, with its count, its timestamp, and where its context begins and ends.
+    Report(EventIndex, u16, Option<Stamp>, usize, usize),
+    State(u8),
+    SetMode(EventIndex, Mode),
+}
+
+impl Row {
+    /// The row of a line whose context lies between these places.
+    pub(crate) fn of(line: &Line<'_>, start: usize, end: usize) -> Row
+        requires { end ≡ start + length (bytes_asked (line_asked line.now)) }
+        ensures asked { (before : List ℕ) → length before ≡ start →
+            row_asked (before ++ bytes_asked (line_asked line.now)) result ≡ line_asked line.now }
+        ensures within { IsRowWithin end result }
+    {
+        match line.act {
+            TraceAct::Report {
+                event,
+                count,
+                stamp,
+                ..
+            } => Row::Report(event, count, stamp, start, end),
+            TraceAct::State(state) => Row::State(state),
+            TraceAct::SetMode { event, mode } => Row::SetMode(event, mode),
+        }
+    }
+
+    /// The line, with its context lent from the bytes of all lines.
+    pub(crate) fn line<'a>(&self, bytes: &'a [u8]) -> Line<'a>
+        requires { IsRowWithin (length bytes.now) self.now }
+        ensures { line_asked result ≡ row_asked bytes.now self.now }
+    {
+        let act = match *self {
+            Row::Report(event, count, stamp, start, end) => TraceAct::Report {
+                event,
+                count,
+                stamp,
+                context: &bytes[start..end],
+            },
+            Row::State(state) => TraceAct::State(state),
+            Row::SetMode(event, mode) => TraceAct::SetMode { event, mode },
+        };
+        Line { act }
+    }
+}
 
 /// The lines of each caller in all rounds, one after the other, and the contexts of all lines.
 #[derive(Debug, Drop)]
@@ -22,7 +105,7 @@ impl Model for CallerRows {
 
     ghost Value = { List (List Asked) };
 
-    ghost use Rattle.trace_text.specs.RowsView.{asked_of, AreSound};
+    ghost use Rattle.trace_text.specs.Lines.{asked_of, AreSound};
 
     ghost view = { asked_of };
 

@@ -6,8 +6,7 @@ ghost use Rattle.history_spec.specs.{KeepUpFrom, last_tick, lines_at, lines_of};
 ghost use Rattle.text_spec.specs.{ended_at, with_last, AreTicks};
 ghost use Rattle.trace_text.specs.{line_asked, line_at, end_at as place_at, no_rounds_of, round_at, with_line, with_round};
 
-use crate::line::Line;
-use crate::rows::CallerRows;
+use crate::rows::{CallerRows, Line};
 use ids_config::Config;
 use ids_types::NoMemory;
 use std::alloc::Global;
@@ -21,13 +20,6 @@ pub(crate) struct RoundEnd {
     lines: [u32; 32],
     after: u64,
 }
-
-/// Where the first round begins.
-const START: RoundEnd = RoundEnd {
-    beside: 0,
-    lines: [0; 32],
-    after: 0,
-};
 
 /// How much a trace is to have room for: rounds with a tick beside each, lines of each caller, and bytes of the
 /// contexts of all lines.
@@ -80,7 +72,12 @@ impl Trace {
     {
         let callers = config.parts().callers as usize;
         let mut ends = Vec::with_capacity(alloc, room.rounds.saturating_add(1))?;
-        ends.push(START)?;
+        // Where the first round begins.
+        ends.push(RoundEnd {
+            beside: 0,
+            lines: [0; 32],
+            after: 0,
+        })?;
         Ok(Trace {
             beside: Vec::with_capacity(alloc, room.rounds)?,
             rows: CallerRows::with_room(alloc, callers, room.lines, room.bytes)?,

@@ -1,5 +1,5 @@
 use Rattle.gen_recording.proofs.Names.{◌≡◌, ◌+◌, ◌*◌, ◌++◌, ◌∷◌, [], map, sym, ap, ◌∙◌, arith, append_assoc, range_with_len, map-range_with_len_more, line_asked, with_lines, number_after, changes_by, tick_after, report_at}
-use Rattle.gen_recording.proofs.TraceLemmas.{lines_more}
+use Rattle.gen_recording.proofs.DrawLemmas.{lines_more}
 use Rattle.gen_recording.proofs.drawing.draw_lines.Goals as goal
 
 pub loop-preserved : goal.loop-preserved

@@ -1,6 +1,6 @@
 use Rattle.gen_recording.proofs.Names.{refl, arith, lines_by}
 use Rattle.text_spec.proofs.TraceFacts.{with_last-push}
-use Rattle.gen_recording.proofs.TraceLemmas.{caller_more}
+use Rattle.gen_recording.proofs.DrawLemmas.{caller_more}
 use Rattle.gen_recording.proofs.drawing.draw_round.Goals as goal
 
 pub loop-caller-preserved : goal.loop-caller-preserved

@@ -1,5 +1,5 @@
 use Rattle.gen_recording.proofs.Names.{sym, ◌∙◌}
-use Rattle.gen_recording.proofs.CountLemmas.{small_classes}
+use Rattle.gen_recording.proofs.RecordingLemmas.{small_classes}
 use Rattle.gen_recording.proofs.entries.class_for.Goals as goal
 
 pub returns : goal.returns

@@ -1,5 +1,5 @@
 use Rattle.gen_recording.proofs.Names.{line_asked}
-use Rattle.gen_recording.proofs.CountLemmas.{calls_more}
+use Rattle.gen_recording.proofs.RecordingLemmas.{calls_more}
 use Rattle.gen_recording.proofs.entries.make_entry.Goals as goal
 
 pub returns-clause-counts : goal.returns-clause-counts

@@ -1,4 +1,4 @@
-use Rattle.trace_replay.proofs.Names.{◌≡◌, ◌+◌, ◌≤◌, [], ◌++◌, length, vec_len, vec_capacity, losses_by, passes_of}
+use Rattle.trace_replay.proofs.Names.{[], length, losses_by, passes_of, vec_capacity, vec_len, ◌++◌, ◌+◌, ◌≡◌, ◌≤◌}
 use Rattle.trace_replay.proofs.callers.callers_of.Given as goal
 
 -- the callers of the first passes are there, and there is room for the others

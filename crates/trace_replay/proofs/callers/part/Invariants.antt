@@ -1,4 +1,4 @@
-use Rattle.trace_replay.proofs.Names.{◌≡◌, take, losses_by}
+use Rattle.trace_replay.proofs.Names.{losses_by, take, ◌≡◌}
 use Rattle.trace_replay.proofs.callers.part.Given as goal
 
 -- the losses of the first callers are there

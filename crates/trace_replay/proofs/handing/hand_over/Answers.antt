@@ -1,4 +1,4 @@
-use Rattle.trace_replay.proofs.Names.{◌∙◌, ◌≡◌, ◌<◌, [], ◌∷◌, length, ap, arith, length_push, get_or_append_left, get_or_push}
+use Rattle.trace_replay.proofs.Names.{[], ap, arith, get_or_append_left, get_or_push, length, length_push, ◌<◌, ◌∙◌, ◌∷◌, ◌≡◌}
 use Rattle.trace_replay.proofs.handing.hand_over.Goals as goal
 
 pub put-requires-clause-hand : goal.put-requires-clause-hand

@@ -1,4 +1,4 @@
-use Rattle.trace_replay.proofs.Names.{◌≤◌, length, AreAtRest}
+use Rattle.trace_replay.proofs.Names.{AreAtRest, length, ◌≤◌}
 use Rattle.trace_replay.proofs.handing.hand_over.Given as goal
 
 -- the callers that are still here are the first ones

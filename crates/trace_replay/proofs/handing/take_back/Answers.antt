@@ -1,4 +1,4 @@
-use Rattle.trace_replay.proofs.Names.{◌≡◌, [], ◌∷◌, length, sym, arith, inl, inr, cases_lt, length_push, get_or_append_left, get_or_push}
+use Rattle.trace_replay.proofs.Names.{[], arith, cases_lt, get_or_append_left, get_or_push, inl, inr, length, length_push, sym, ◌∷◌, ◌≡◌}
 use Rattle.trace_replay.proofs.handing.take_back.Goals as goal
 
 pub loop-i-preserved : goal.loop-i-preserved

@@ -1,4 +1,4 @@
-use Rattle.trace_replay.proofs.Names.{◌≡◌, ◌+◌, length, AreAtRest}
+use Rattle.trace_replay.proofs.Names.{AreAtRest, length, ◌+◌, ◌≡◌}
 use Rattle.trace_replay.proofs.handing.take_back.Given as goal
 
 -- the first callers are back

@@ -3,8 +3,5 @@ use Rattle.trace_replay.proofs.Names.{arith}
 use Rattle.trace_replay.proofs.RoundLossLemmas.{most}
 use Rattle.trace_replay.proofs.laws.no_round_loses_what_fits.Goals as goal
 
-pub returns-clause-most : goal.returns-clause-most
-returns-clause-most c = most
-
-pub returns-clause-none : goal.returns-clause-none
-returns-clause-none c config rounds m gives k is are less few = omega (arith, most config rounds m gives k is are less)
+pub returns : goal.returns
+returns c = record { most = most; none = λ config rounds m gives k is are less few. omega (arith, most config rounds m gives k is are less) }

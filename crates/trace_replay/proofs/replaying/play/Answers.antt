@@ -1,8 +1,7 @@
-use Rattle.trace_replay.proofs.Names.{length, arith, take_all, last_of_all, last_small, pass_memo, Caller}
+use Rattle.trace_replay.proofs.Names.{Caller, arith, last_of_all, last_small, length, pass_memo, take_all}
 use Rattle.std.proofs.lemmas.Simd.{map-map}
 use Rattle.trace_replay.proofs.EndLemmas.{is_replay}
-use Rattle.trace_replay.proofs.RoundLemmas.{has_passes}
-use Rattle.trace_replay.proofs.StartLemmas.{begins, begins_record}
+use Rattle.trace_replay.proofs.RoundLemmas.{begins, begins_record, has_passes}
 use Rattle.trace_replay.proofs.replaying.play.Goals as goal
 
 pub play_beside-requires-clause-between : goal.play_beside-requires-clause-between

@@ -1,5 +1,5 @@
-use Rattle.trace_replay.proofs.Names.{ap, ◌∙◌, Gathered}
-use Rattle.trace_replay.proofs.StartLemmas.{all_may_be_asked}
+use Rattle.trace_replay.proofs.Names.{Gathered, ap, ◌∙◌}
+use Rattle.trace_replay.proofs.RoundLemmas.{all_may_be_asked}
 use Rattle.trace_replay.proofs.replaying.run.Goals as goal
 
 pub make-requires-4-clause-asked : goal.make-requires-4-clause-asked

@@ -1,4 +1,4 @@
-use Rattle.trace_replay.proofs.Names.{◌+◌, refl, arith, sym, ap, ◌∙◌, Gathered, Recorder}
+use Rattle.trace_replay.proofs.Names.{Gathered, Recorder, ap, arith, refl, sym, ◌+◌, ◌∙◌}
 use Rattle.trace_replay.proofs.RoundLemmas.{has_passes, still_at_rest}
 use Rattle.trace_replay.proofs.rounds.end_round.Goals as goal
 
@@ -29,7 +29,7 @@ returns g c =
     let turn = c.in_ok-turn_at_rest.ensures in
     record {
       rest = still_at_rest c.args.stage.now.shared.now c.args.stage.now.trace.now.rounds (c.args.round + 1) c.args.callers.now c.turn_at_rest.new.callers
-          turn.turns.offered c.requires.rest turn.passes turn.losses turn.turns.each;
+          _ c.requires.rest turn.passes turn.losses turn.turns.rested.go_on;
       ends = record {
         rested = rested;
         turned = c.turn_at_rest.new.self;

@@ -1,4 +1,4 @@
-use Rattle.trace_replay.proofs.Names.{named, of_param, shr_send, Quiet-if}
+use Rattle.trace_replay.proofs.Names.{Quiet-if, named, of_param, shr_send}
 use Rattle.trace_replay.proofs.SyncLemmas.{stage_sync}
 use Rattle.trace_replay.proofs.rounds.play_beside.Goals as goal
 

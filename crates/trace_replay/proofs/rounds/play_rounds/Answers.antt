@@ -1,5 +1,5 @@
-use Rattle.trace_replay.proofs.Names.{◌≡◌, ◌∙◌, length, sym, arith, length-map, pass_memo, Caller}
-use Rattle.trace_replay.proofs.RoundLemmas.{next_keeps, round_played, written_whole}
+use Rattle.trace_replay.proofs.Names.{ap, ℕ, ◌++◌, take, drop, take-append_seam, Caller, arith, length, length-map, pass_memo, sym, ◌∙◌, ◌≡◌}
+use Rattle.trace_replay.proofs.RoundLemmas.{next_keeps, round_played}
 use Rattle.trace_replay.proofs.rounds.play_rounds.Goals as goal
 
 pub play_calls-requires-clause-later : goal.play_calls-requires-clause-later
@@ -32,6 +32,7 @@ loop-round-preserved g c =
     let mids = c.play_calls.new.callers in
     let news = c.end_round.new.callers in
     let many : length news ≡ length mids.items =
-    sym (length-map news (λ (d : Caller). pass_memo d.pass)) ∙ ended.ends.turn.all ∙ length-map mids.items (λ (d : Caller). pass_memo d.pass) in
-    rw (written_whole mids.items news mids.len many (omega (arith, mids.ok)))
+    sym (length-map news (λ (d : Caller). pass_memo d.pass)) ∙ ended.ends.turn.rested.as_many ∙ length-map mids.items (λ (d : Caller). pass_memo d.pass) in
+    let long : mids.len ≡ length news = omega (arith, mids.ok, many) in
+    rw (ap (λ (len : ℕ). take len (news ++ drop (length news) mids.items)) long ∙ take-append_seam news (drop (length news) mids.items))
     (round_played c.loop-round.invariant played.turns ended.ends (omega arith) c.requires.set.can.each_caller played.rest ended.rest played.callers)

@@ -1,5 +1,4 @@
-use Rattle.trace_replay.proofs.Names.{◌≡◌, ◌≤◌, length, vec_len, vec_capacity}
-use Rattle.trace_replay.specs.Places.{ArePlaces}
+use Rattle.trace_replay.proofs.Names.{ArePlaces, length, vec_capacity, vec_len, ◌≡◌, ◌≤◌}
 use Rattle.trace_replay.proofs.stage.places_for.Given as goal
 
 -- the first places are there, and there is room for the others

@@ -1,4 +1,4 @@
-use Rattle.gen_recording.proofs.Names.{◌<◌, ◌≤◌, [], length, reverse-append, sym, ◌∙◌, refl, arith, on_ok_weaker, take_all, take_more, last_tick, begun_round}
+use Rattle.gen_recording.proofs.Names.{◌<◌, ◌≤◌, [], length, reverse-append, refl, arith, on_ok_weaker, take_all, take_more, last_tick, begun_round}
 use Rattle.text_spec.proofs.JournalFacts.{flat_map-push}
 use Rattle.text_spec.proofs.TraceFacts.{last_tick-push}
 use Rattle.gen_recording.proofs.RecordingLemmas.{next_keeps}
@@ -8,7 +8,7 @@ pub take_round-requires-clause-ticks : goal.take_round-requires-clause-ticks
 take_round-requires-clause-ticks c =
     let rounds = c.args.trace.now.rounds in
     let there : c.loop-round.round < length rounds = omega (arith, c.rounds-round-end.ensures) in
-    rw c.loop-round.invariant.tick (next_keeps c.loop-round.last rounds c.loop-round.round (last_tick rounds) there c.loop-round.invariant.ticks).0
+    (next_keeps c.loop-round.self.tick rounds c.loop-round.round (last_tick rounds) there c.loop-round.invariant.ticks).0
 
 pub loop-round-preserved : goal.loop-round-preserved
 loop-round-preserved c =
@@ -17,9 +17,8 @@ loop-round-preserved c =
     let there : k < length rounds = omega (arith, c.rounds-round-end.ensures) in
     record {
       at = rw (take_more rounds k (begun_round 0 [] 0), flat_map-push, reverse-append) (c.in_ok-take_round.ensures.at _ c.loop-round.invariant.at);
-      tick = c.in_ok-take_round.ensures.tick ∙ sym c.after-last.ensures;
-      last = rw (c.after-last.ensures, take_more rounds k (begun_round 0 [] 0), last_tick-push) refl;
-      ticks = rw c.after-last.ensures (next_keeps c.loop-round.last rounds k (last_tick rounds) there c.loop-round.invariant.ticks).1;
+      last = rw (c.in_ok-take_round.ensures.tick, take_more rounds k (begun_round 0 [] 0), last_tick-push) refl;
+      ticks = rw c.in_ok-take_round.ensures.tick (next_keeps c.loop-round.self.tick rounds k (last_tick rounds) there c.loop-round.invariant.ticks).1;
     }
 
 pub returns : goal.returns

@@ -5,7 +5,6 @@ use Rattle.gen_recording.proofs.recorder.Recorder.take_all.Given as goal
 abbrev pub invariant-loop-round : goal.invariant-loop-round
 invariant-loop-round l = record {
   at : IsAt l.config (reverse (flat_map plans_in (take l.round l.trace.rounds))) [] l.self;
-  tick : l.self.tick ≡ l.last;
-  last : l.last ≡ last_tick (take l.round l.trace.rounds);
-  ticks : KeepUpFrom l.last (flat_map round_ticks (drop l.round l.trace.rounds) ++ last_tick l.trace.rounds ∷ []);
+  last : l.self.tick ≡ last_tick (take l.round l.trace.rounds);
+  ticks : KeepUpFrom l.self.tick (flat_map round_ticks (drop l.round l.trace.rounds) ++ last_tick l.trace.rounds ∷ []);
 }

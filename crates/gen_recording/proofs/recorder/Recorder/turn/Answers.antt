@@ -33,7 +33,7 @@ returns-clause-at c = on_ok_weaker c.add.result (λ tallies before calls at.
     let tells = tells_more handed at.tells sends tallies in
     let old = c.args.self.now.journal.items in
     let more : c.push_items.new.out.items ≡ old ++ turn_text turn =
-    c.in_ok-push_items.ensures ∙ ap (λ items. old ++ turn_text (turn_by held head items)) c.deref.ensures.value in
+    c.in_ok-push_items.ensures.ok ∙ ap (λ items. old ++ turn_text (turn_by held head items)) c.deref.ensures.value in
     record {
       journal = rw (← made, more, at.journal) (simp (append-nil, turns-push));
       tick = sym (ap last_tick (sym made) ∙ last_of history turn);

@@ -1,4 +1,4 @@
-use Rattle.trace_replay.proofs.Names.{common_steps, ◌≡◌, ℕ, suc, ◌+◌, ◌-◌, List, [], ◌∷◌, ◌++◌, length, map, refl, sym, ap, ◌∙◌, arith, length_push, losses_from, Asked, Outcome, Lost, Got, fate_of, Answers, CallsOnce, Told, loss_of, lost_report, lost_reports, HasListed, AllZip-long, all_zipped_more, ◌<◌, take, append_assoc, take_more, length-flat_map-take, changes, begun_round, lines_at, line_at, round_at, lines_before}
+use Rattle.trace_replay.proofs.Names.{AllZip-long, Answers, Asked, CallsOnce, Got, HasListed, List, Lost, Outcome, Told, [], all_zipped_more, ap, append_assoc, arith, begun_round, changes, common_steps, fate_of, length, length-flat_map-take, length_push, line_at, lines_at, lines_before, loss_of, losses_from, lost_report, lost_reports, map, refl, round_at, suc, sym, take, take_more, ℕ, ◌++◌, ◌+◌, ◌-◌, ◌<◌, ◌∙◌, ◌∷◌, ◌≡◌}
 use Rattle.trace_replay.proofs.caller.Caller.play.Goals as goal
 
 -- the lost reports, with one call more

@@ -1,4 +1,4 @@
-use Rattle.trace_replay.proofs.Names.{◌+◌, ◌≤◌, ◌++◌, length, take, vec_len, vec_capacity, lines_at, round_at, IsAtRest, lines_before}
+use Rattle.trace_replay.proofs.Names.{IsAtRest, length, lines_at, lines_before, round_at, take, vec_capacity, vec_len, ◌++◌, ◌+◌, ◌≤◌}
 use Rattle.trace_replay.proofs.caller.Caller.play.Given as goal
 
 -- the calls of the first lines of the round are made too, and there is room for the losses of the others

@@ -1,4 +1,4 @@
-use Rattle.trace_replay.specs.Hands.{StandsAt}
+use Rattle.trace_replay.proofs.Names.{StandsAt}
 use Rattle.trace_replay.proofs.place.Place.put.Given as goal
 
 -- the caller is still in hand

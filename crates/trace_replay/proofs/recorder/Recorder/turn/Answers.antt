@@ -1,5 +1,4 @@
-use Rattle.std.proofs.lemmas.Result.{on_ok_weaker}
-use Rattle.trace_replay.proofs.Names.{◌∷◌, [], refl, Continues, Recorder}
+use Rattle.trace_replay.proofs.Names.{Continues, Recorder, [], on_ok_weaker, refl, ◌∷◌}
 use Rattle.trace_replay.proofs.RecordingLemmas.{advances}
 use Rattle.trace_replay.proofs.recorder.Recorder.turn.Goals as goal
 

@@ -1,9 +1,5 @@
-use Rattle.std.proofs.lemmas.Result.{on_ok_weaker}
-use Rattle.trace_replay.proofs.Names.{◌∙◌, sym, length-map}
+use Rattle.trace_replay.proofs.Names.{Caller, length-map, on_ok_weaker, pass_memo, sym, views_of, ◌∙◌}
 use Rattle.trace_replay.proofs.RecordingLemmas.{at_rest}
-use Rattle.report_api.specs.{pass_memo}
-use Rattle.trace_replay.specs.Standing.{views_of}
-use Rattle.trace_replay.specs.declared.caller.Caller.{Caller}
 use Rattle.trace_replay.proofs.recorder.Recorder.turn_at_rest.Goals as goal
 
 pub returns-clause-turns : goal.returns-clause-turns

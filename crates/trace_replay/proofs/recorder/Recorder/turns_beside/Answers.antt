@@ -1,4 +1,4 @@
-use Rattle.trace_replay.proofs.Names.{take, drop, take-append-drop, drop-cons, keep_split, [], refl, sym, rules, arith, append-nil, take_more, last_of, turns_in}
+use Rattle.trace_replay.proofs.Names.{[], append-nil, arith, drop, drop-cons, keep_split, last_of, refl, rules, sym, take, take-append-drop, take_more, turns_in}
 use Rattle.trace_replay.proofs.RecordingLemmas.{made_more}
 use Rattle.trace_replay.proofs.recorder.Recorder.turns_beside.Goals as goal
 

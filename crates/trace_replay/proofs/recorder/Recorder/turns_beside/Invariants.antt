@@ -1,4 +1,4 @@
-use Rattle.trace_replay.proofs.Names.{take, Continues}
+use Rattle.trace_replay.proofs.Names.{Continues, take}
 use Rattle.trace_replay.proofs.recorder.Recorder.turns_beside.Given as goal
 
 -- turns of the first ticks were made

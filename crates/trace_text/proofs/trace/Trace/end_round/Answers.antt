@@ -1,5 +1,5 @@
 use Rattle.trace_text.proofs.Names.{◌≡◌, ◌<◌, ◌-◌, length, set, rules, arith, ap, ◌∙◌, get_or_read, ended_at, with_last, ticks_ended, Lie, Traced, at_start, laid_of, rounds_laid}
-use Rattle.trace_text.proofs.LaidLemmas.{end_changed, last_end, now_sound, rounds_are}
+use Rattle.trace_text.proofs.LaidLemmas.{and_tick, end_lies, last_end, last_lies, now_sound, rounds_are}
 use Rattle.trace_text.proofs.trace.Trace.end_round.Goals as goal
 
 -- the lists with the tick
@@ -10,7 +10,7 @@ lies c =
     let some : 0 < length (rounds_laid laid) = grind (arith, c.requires.round, c.self.view_is) in
     let place : c.len-last.result ≡ length laid.ends = search rules in
     let last : c.index_mut.result.now ≡ last_end laid = get_or_read laid.ends _ c.index_mut.result.now (omega (arith, c.self.invariant.lie.as_many)) (rw place at c.index_mut.ensures.value) at_start in
-    rw (last, place) (end_changed laid (rounds_laid laid) c.self.invariant.lie some c.args.tick)
+    rw (last, place) (last_lies laid (and_tick laid c.args.tick) (ended_at c.args.tick) (rounds_laid laid) c.self.invariant.lie some (λ front round it. end_lies laid front round it c.args.tick))
 
 pub invariant_of-self : goal.invariant_of-self
 invariant_of-self c =

@@ -1,5 +1,5 @@
 use Rattle.trace_text.proofs.Names.{◌≡◌, ◌^◌, ◌<◌, ◌+◌, ◌-◌, ◌++◌, ◌∷◌, [], length, set, get_or, List, rules, arith, ap, ap₂, length-append, length-set, ◌∙◌, slice_index, get_or_read, asked_more, with_last, Asked, Round, ticks_asked, line_asked, Lie, at_start, laid_of, rounds_laid, with_line, common_steps}
-use Rattle.trace_text.proofs.LaidLemmas.{all_counted, last_end, line_pushed, now_sound, rounds_are}
+use Rattle.trace_text.proofs.LaidLemmas.{all_counted, and_line, last_end, last_lies, line_lies, now_sound, rounds_are}
 use Rattle.trace_text.proofs.trace.Trace.push_line.Goals as goal
 
 module _ (c : goal.After-self-1) where
@@ -27,7 +27,8 @@ module _ (c : goal.After-self-1) where
   lies =
       let laid = laid_of c.self.inside in
       let last : c.index_mut.result.now ≡ last_end laid = get_or_read laid.ends _ c.index_mut.result.now (omega (arith, c.self.invariant.lie.as_many)) (rw place at c.index_mut.ensures.value) at_start in
-      rw (pushed, last, place) (line_pushed laid (rounds_laid laid) c.self.invariant.lie (grind (arith, c.requires.round, c.self.view_is)) c.args.caller asked c.in_ok-more.more there (omega (arith, there, c.self.invariant.few)) counted)
+      rw (pushed, last, place) (last_lies laid (and_line laid c.args.caller asked c.in_ok-more.more) (asked_more c.args.caller asked) (rounds_laid laid) c.self.invariant.lie (grind (arith, c.requires.round, c.self.view_is))
+      (λ front round it. line_lies laid front round it c.args.caller asked c.in_ok-more.more there (omega (arith, there, c.self.invariant.few)) counted))
 
 pub invariant_of-self-2 : goal.invariant_of-self-2
 invariant_of-self-2 c =

@@ -1,6 +1,6 @@
 use Rattle.trace_replay.proofs.Names.{named, shr_sync}
 use Rattle.trace_replay.proofs.SyncLemmas.{stage_sync}
-use Rattle.trace_replay.proofs.serving.serve_all.Goals as goal
+use Rattle.trace_replay.proofs.stage.serve_all.Goals as goal
 
 pub for_each_mut-requires-sync-F : goal.for_each_mut-requires-sync-F
 for_each_mut-requires-sync-F g c κs within = record {

@@ -1,5 +1,5 @@
 use Rattle.trace_text.proofs.Names.{◌≡◌, take, rounds_told, lines_text}
-use Rattle.trace_text.proofs.printing.print_rounds.Given as goal
+use Rattle.trace_text.proofs.printing.print.Given as goal
 
 -- the first rounds have been printed
 abbrev pub invariant-loop-round : goal.invariant-loop-round
