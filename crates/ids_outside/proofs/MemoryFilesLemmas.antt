@@ -11,7 +11,7 @@ use Rattle.std.proofs.lemmas.List.{reverse-append}
 use Rattle.std.proofs.lemmas.Map.Text.{btree_map_updates_text}
 use Rattle.std.proofs.lemmas.Slice.Eq.{bytes_eq-Decides}
 use Rattle.ids_outside.specs.Files.{Files, SameFiles, Changes}
-use Rattle.ids_outside.specs.MemoryFiles.{Given, given_files, files_in, Adds}
+use Rattle.ids_outside.specs.Bodies.{Given, given_files, files_in, Adds}
 use Rattle.std.proofs.Common.{arith}
 use Rattle.std.proofs.lemmas.Grind.{common_steps}
 
@@ -49,8 +49,8 @@ changes_from_growth (Err _) name piece old new before after there updates grown 
     grind (arith, names_cases name other, changes_from_updates name old new after updates)
 
 -- where the files before were those given, one more is given and found
-pub given_files-step : (before : List Given) (file : Given) (old new : Files)
+pub given_files_step : (before : List Given) (file : Given) (old new : Files)
     → SameFiles (given_files before) old
     → Changes old new (string_bytes file.0) (Some file.1.items)
     → SameFiles (given_files (before ++ file ∷ [])) new
-given_files-step before file old new same changes name = grind (arith, common_steps, reverse-append, names_cases)
+given_files_step before file old new same changes name = grind (arith, common_steps, reverse-append, names_cases)

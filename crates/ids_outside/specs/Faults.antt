@@ -1,6 +1,9 @@
--- Faults of shelves and sinks: how many there were, which came last, and which answers count one; and
--- how often memory was refused to a call.
-use Rattle.std.specs.Prelude.{◌≡◌, ℕ, ◌+◌, ◌-◌, ◌^◌, ◌≤◌, min, List, Option, None, Some, Result, Ok, Err}
+-- Faults of shelves and sinks: how many there were, which came last, and which answers count one; how
+-- often memory was refused to a call; and scripted failures: a body in memory numbers its calls from 0,
+-- and those that a test lists fail.
+use Rattle.std.specs.Prelude.{◌≡◌, ◌⊎◌, ℕ, ◌+◌, ◌-◌, ◌^◌, ◌≤◌, min, List, Contains, Option, None, Some, Result, Ok, Err}
+use Rattle.std.specs.declared.io.ErrorKind.{ErrorKind}
+use Rattle.std.specs.declared.io.ErrorKind.TheVariants.{OutOfMemory}
 use Rattle.ids_outside.specs.declared.faults.FaultKind.{FaultKind}
 use Rattle.ids_outside.specs.declared.faults.FaultKind.TheVariants.{Read}
 use Rattle.ids_outside.specs.declared.faults.ReadFault.TheVariants as read
@@ -56,3 +59,35 @@ abbrev pub WriteCause : {T : Type 0} → FaultKind → Faults → Faults → Lis
 WriteCause kind old new name (Ok _) = new ≡ old
 WriteCause kind old new name (Err write.Failed) = CountsFault old new kind name
 WriteCause kind old new name (Err write.NoMemory) = WantsMemory old new
+
+-- the fault at an error of this kind: the host's want of memory, or a failure
+abbrev pub fault_at : {F : Type 0} → F → F → ErrorKind → F
+fault_at wants failed OutOfMemory = wants
+fault_at wants failed _ = failed
+
+-- the numbers of the calls that are to fail, and how many calls were made
+pub record Plan : Type 0 where
+  pub fails : List ℕ
+  pub calls : ℕ
+
+-- the number of the next call is listed
+abbrev pub IsToFail : Plan → Type 0
+IsToFail plan = Contains plan.fails plan.calls
+
+-- one more call was made, and the listed numbers stay
+pub record CountsCall (old new : Plan) : Type 0 where
+  pub calls : new.calls ≡ counted old.calls
+  pub fails : new.fails ≡ old.fails
+
+-- want of memory aside, a read fails exactly where its number is listed or its file is missing
+abbrev pub ReadFollows : {T : Type 0} → Plan → Option (List ℕ) → Result T ReadFault → Type 0
+ReadFollows plan file (Ok _) = ¬ IsToFail plan
+ReadFollows plan file (Err read.Failed) = IsToFail plan ⊎ (file ≡ None)
+ReadFollows plan file (Err read.TooLong) = ¬ IsToFail plan
+ReadFollows plan file (Err read.NoMemory) = Unit {0}
+
+-- want of memory aside, a write fails exactly where its number is listed
+abbrev pub WriteFollows : {T : Type 0} → Plan → Result T WriteFault → Type 0
+WriteFollows plan (Ok _) = ¬ IsToFail plan
+WriteFollows plan (Err write.Failed) = IsToFail plan
+WriteFollows plan (Err write.NoMemory) = Unit {0}

@@ -1,11 +1,33 @@
--- What the host's shelf does with the files that it opens, as far as these tell their bytes.
-use Rattle.std.specs.Prelude.{◌≡◌, ◌≢◌, ℕ, List, Option, Some, IfSome, Result, Ok, Err, Vec, option_map, string_bytes}
-use Rattle.std.specs.Io.KnownBytes.{Appends}
+-- Whole reads and writes of the host's streams, and what the host's shelf does with the files that it opens, as far as
+-- these tell their bytes.
+use Rattle.std.specs.Prelude.{◌≡◌, ◌≢◌, ℕ, ◌<◌, ◌≤◌, List, length, take, Option, Some, IfSome, Result, Ok, Err, Vec, option_map, string_bytes}
+use Rattle.std.specs.Io.KnownBytes.{Appends, Keeps}
 use Rattle.std.specs.declared.alloc.Global.{Global}
-use Rattle.ids_outside.specs.Streams.{StreamGives}
 use Rattle.ids_outside.specs.declared.faults.ReadFault.TheVariants as read
 use Rattle.ids_outside.specs.declared.faults.ReadFault.{ReadFault}
+use Rattle.ids_outside.specs.declared.faults.WriteFault.TheVariants as write
+use Rattle.ids_outside.specs.declared.faults.WriteFault.{WriteFault}
 use Rattle.ids_outside.specs.declared.host_shelf.OpenFile.{OpenFile}
+
+-- a read to the end gives the bytes that were left, or says that they exceed the limit
+abbrev pub StreamGives : List ℕ → ℕ → Result (Vec ℕ Global) ReadFault → Type 0
+StreamGives left limit (Ok bytes) = bytes.items ≡ left
+StreamGives left limit (Err read.Failed) = Unit {0}
+StreamGives left limit (Err read.TooLong) = limit < length left
+StreamGives left limit (Err read.NoMemory) = Unit {0}
+
+-- a first part of the piece was written, maybe none or all of it
+pub record WritesPart (old new : Option (List ℕ)) (piece : List ℕ) : Type 0 where
+  pub count : ℕ
+  pub within : count ≤ length piece
+  pub written : Appends old new (take count piece)
+
+-- a write takes the piece; one that fails takes a first part of it, and one without memory nothing
+abbrev pub StreamTakes : {T : Type 0} → Option (List ℕ) → Option (List ℕ) → List ℕ
+    → Result T WriteFault → Type 0
+StreamTakes old new piece (Ok _) = Appends old new piece
+StreamTakes old new piece (Err write.Failed) = WritesPart old new piece
+StreamTakes old new piece (Err write.NoMemory) = Keeps old new
 
 -- when it was opened, a file of the host had these bytes left, or more than the limit, where it tells them
 pub record WasRead {F : Type 0} (IsOpened : F → Type 0) (remaining : F → Option (List ℕ)) (limit : ℕ) (result : Result (Vec ℕ Global) ReadFault) : Type 0 where

@@ -1,9 +1,9 @@
-//! The faults that a shelf counts.
+//! What a shelf and a sink count: their faults, and the calls of a test that are to fail.
 
-ghost use Rattle.std.specs.Prelude.{◌≡◌, option_map, string_bytes, OnOk, OnErr};
-ghost use Rattle.ids_outside.specs.Faults.{Fault, Faults, no_faults, counted, CountsFault, WantsMemory};
+ghost use Rattle.std.specs.Prelude.{◌≡◌, ◌↔◌, option_map, string_bytes, OnOk, OnErr, IsTrue};
+ghost use Rattle.ids_outside.specs.Faults.{Fault, Faults, no_faults, CountsFault, WantsMemory, Plan, IsToFail, CountsCall};
+ghost use Rattle.ids_outside.specs.Sinks.{Misses, no_misses, MissesOne, RefusesOne};
 
-use crate::count::one_more;
 use crate::faults::FaultKind;
 use std::alloc::AllocError;
 use std::marker::Model;
@@ -24,7 +24,7 @@ impl Model for LastFault {
 /// The faults of a shelf: how many there were, and the last one; and how often memory was refused.
 #[derive(Debug, Drop)]
 pub(crate) struct FaultLog {
-    count: u64,
+    pub(crate) count: u64,
     last: Option<LastFault>,
     refused: u64,
 }
@@ -46,12 +46,6 @@ impl FaultLog {
         }
     }
 
-    pub(crate) fn count(&self) -> u64
-        ensures { result ≡ self.now.count }
-    {
-        self.count
-    }
-
     pub(crate) fn last(&self) -> Option<(FaultKind, &str)>
         ensures { option_map (λ p. record { kind = p.0; name = p.1.now }) result ≡ self.now.last }
     {
@@ -64,16 +58,15 @@ impl FaultLog {
     /// Counts a fault. The count stays at its greatest value once there.
     pub(crate) fn note(&mut self, kind: FaultKind, name: String)
         ensures counts { CountsFault self.old self.new kind (string_bytes name) }
-        ensures one { self.new.count ≡ counted self.old.count }
     {
-        self.count = one_more(self.count);
+        self.count = self.count.saturating_add(1);
         self.last = Some(LastFault { kind, name });
     }
     /// Counts a refusal of memory, up to the greatest value.
     pub(crate) fn refuse(&mut self)
         ensures { WantsMemory self.old self.new }
     {
-        self.refused = one_more(self.refused);
+        self.refused = self.refused.saturating_add(1);
     }
 
     /// Hands on what the allocator answered, and counts a refusal.
@@ -86,5 +79,68 @@ impl FaultLog {
             self.refuse();
         }
         answer
+    }
+}
+
+/// The puts that a sink missed: how many failed, and how many were refused memory.
+#[derive(Debug, Drop)]
+pub(crate) struct Missed {
+    pub(crate) failed: u64,
+    refused: u64,
+}
+
+impl Model for Missed {
+    ghost Value = { Misses };
+
+    ghost view = { λ m. record { failed = m.failed; refused = m.refused } };
+}
+
+impl Missed {
+    pub(crate) fn new() -> Missed
+        ensures { result ≡ no_misses }
+    {
+        Missed {
+            failed: 0,
+            refused: 0,
+        }
+    }
+
+    /// Counts a put that failed, up to the greatest value.
+    pub(crate) fn fail(&mut self)
+        ensures { MissesOne self.old self.new }
+    {
+        self.failed = self.failed.saturating_add(1);
+    }
+
+    /// Counts a put that was refused memory, up to the greatest value.
+    pub(crate) fn refuse(&mut self)
+        ensures { RefusesOne self.old self.new }
+    {
+        self.refused = self.refused.saturating_add(1);
+    }
+}
+
+/// Which calls are to fail, by their numbers from 0, and how many calls were made.
+#[derive(Debug, Drop)]
+pub(crate) struct Script {
+    pub(crate) fails: Vec<u64>,
+    pub(crate) calls: u64,
+}
+
+impl Model for Script {
+    ghost Value = { Plan };
+
+    ghost view = { λ s. record { fails = s.fails.items; calls = s.calls } };
+}
+
+impl Script {
+    /// Counts a call, and says whether it is to fail.
+    pub(crate) fn next_fails(&mut self) -> bool
+        ensures fails { IsTrue result ↔ IsToFail self.old }
+        ensures counts { CountsCall self.old self.new }
+    {
+        let fails = self.fails.contains(&self.calls);
+        self.calls = self.calls.saturating_add(1);
+        fails
     }
 }

@@ -3,7 +3,7 @@
 ghost use Rattle.std.specs.Prelude.{◌≡◌};
 ghost use Rattle.ids_outside.specs.declared.faults.ReadFault.TheVariants as read;
 ghost use Rattle.ids_outside.specs.declared.faults.WriteFault.TheVariants as write;
-ghost use Rattle.ids_outside.specs.HostFaults.{fault_at};
+ghost use Rattle.ids_outside.specs.Faults.{fault_at};
 ghost use Rattle.std.specs.IoError.{error_kind};
 
 use std::alloc::AllocError;
@@ -49,10 +49,9 @@ impl From<io::Error> for ReadFault {
 
     /// The host's own want of memory is `NoMemory`, and every other error a failure.
     fn from(error: io::Error) -> Self {
-        if error.kind() == io::ErrorKind::OutOfMemory {
-            ReadFault::NoMemory
-        } else {
-            ReadFault::Failed
+        match error.kind() {
+            io::ErrorKind::OutOfMemory => ReadFault::NoMemory,
+            _ => ReadFault::Failed,
         }
     }
 }
@@ -70,10 +69,9 @@ impl From<io::Error> for WriteFault {
 
     /// The host's own want of memory is `NoMemory`, and every other error a failure.
     fn from(error: io::Error) -> Self {
-        if error.kind() == io::ErrorKind::OutOfMemory {
-            WriteFault::NoMemory
-        } else {
-            WriteFault::Failed
+        match error.kind() {
+            io::ErrorKind::OutOfMemory => WriteFault::NoMemory,
+            _ => WriteFault::Failed,
         }
     }
 }

@@ -1,16 +1,46 @@
-//! The shelf over the files of the host.
+//! The shelf over the files of the host, and the sink over its standard output; with reads of a stream to its end, and
+//! writes of a whole piece to one.
 
-ghost use Rattle.std.specs.Prelude.{◌≡◌, ◌≢◌, None, Some, IfOk, OnOk, OnErr, Ok, IfSome, string_bytes, length, ◌≤◌};
-ghost use Rattle.ids_outside.specs.{no_faults, ReadCause, WriteCause, Read, Create, Append};
-ghost use Rattle.ids_outside.specs.HostFiles.{ReadsFile, WasWritten};
+ghost use Rattle.std.specs.Prelude.{◌≡◌, ◌≢◌, ⊤, ℕ, List, None, Some, IfOk, OnOk, OnErr, Ok, IfSome, string_bytes, length, ◌≤◌};
+ghost use Rattle.std.specs.Io.{ReadsAtMost, WritesAtMost};
+ghost use Rattle.std.specs.Io.KnownBytes.{ReadConsumes, WriteAppends};
+ghost use Rattle.ids_outside.specs.{no_faults, no_misses, ReadCause, WriteCause, silent, deaf, Read, Create, Append};
+ghost use Rattle.ids_outside.specs.Bodies.{host_shelf_faults, host_sink_misses, open_name};
+ghost use Rattle.ids_outside.specs.HostFiles.{ReadsFile, WasWritten, StreamGives, StreamTakes};
+ghost use Rattle.ids_outside.specs.declared.faults.FaultKind.{FaultKind};
 
-use crate::fault_log::FaultLog;
+use crate::fault_log::{FaultLog, Missed};
 use crate::faults::{FaultKind, ReadFault, WriteFault};
-use crate::opener::Opener;
-use crate::shelf::Shelf;
-use crate::streams::{read_up_to, write_whole};
+use crate::shelf::{Shelf, Sink};
 use std::alloc::Global;
+use std::fs::OpenOptions;
+use std::io::{self, ErrorKind};
 use std::rt::Files;
+
+/// Opens the files of a shelf over a host. Each runtime with files does.
+pub trait Opener: Files {
+    /// A file as it was opened for this call of a shelf, by this name: nothing was read from it or written to it
+    /// since. A runtime does not tell which files these are, so a clause that names them is shown for any choice.
+    ghost is_opened: { FaultKind → List ℕ → Self.File → Type 0 };
+
+    /// Opens the file of this name to be read, to be made empty, or to be appended to.
+    fn open_for(&self, call: FaultKind, name: &str) -> io::Result<Self::File>
+        ensures { IfOk result (is_opened call name.now) };
+}
+
+impl<R: Files> Opener for R {
+    ghost is_opened = { λ _ _ _. ⊤ };
+
+    fn open_for(&self, call: FaultKind, name: &str) -> io::Result<R::File> {
+        let mut how = OpenOptions::new();
+        match call {
+            FaultKind::Read => how.read(true),
+            FaultKind::Create => how.write(true).create(true).truncate(true),
+            FaultKind::Append => how.append(true).create(true),
+        };
+        how.open(self, name)
+    }
+}
 
 /// A file that is open to be written to.
 #[derive(Drop)]
@@ -32,8 +62,6 @@ pub struct HostShelf<R: Files> {
 }
 
 impl<R: Opener + Drop> HostShelf<R> {
-    ghost use Rattle.ids_outside.specs.Bodies.{host_shelf_faults, open_name};
-
     /// Reaches the files by this runtime, and keeps the names of files in memory of `alloc`.
     pub fn new(rt: R, alloc: Global) -> HostShelf<R>
         ensures { host_shelf_faults result ≡ no_faults }
@@ -98,9 +126,6 @@ fn read_file<R: Opener>(rt: &R, alloc: Global, name: &str, limit: u64) -> Result
 }
 
 impl<R: Opener + Drop> Shelf for HostShelf<R> {
-    ghost use Rattle.ids_outside.specs.Bodies.{host_shelf_faults, open_name};
-    ghost use Rattle.ids_outside.specs.Shelved.{silent};
-
     ghost shows = { λ shelf. silent (host_shelf_faults shelf) };
 
     fn read(&mut self, alloc: Global, name: &str, limit: u64) -> Result<Vec<u8>, ReadFault>
@@ -151,4 +176,106 @@ impl<R: Opener + Drop> Shelf for HostShelf<R> {
         self.current = Some(current);
         result
     }
+}
+
+/// The host's standard output. It tells nothing of what arrives there.
+#[derive(Drop)]
+pub struct HostSink<R> {
+    rt: R,
+    missed: Missed,
+}
+
+impl<R: Print + Drop> HostSink<R> {
+    /// Writes by this runtime.
+    pub fn new(rt: R) -> HostSink<R>
+        ensures { host_sink_misses result ≡ no_misses }
+    {
+        HostSink {
+            rt,
+            missed: Missed::new(),
+        }
+    }
+}
+
+impl<R: Print + Drop> Sink for HostSink<R> {
+    ghost hears = { λ sink. deaf (host_sink_misses sink) };
+
+    fn put(&mut self, piece: &[u8]) -> Result<(), WriteFault> {
+        let result = write_whole(&mut io::writer(&self.rt), piece);
+        match result {
+            Err(WriteFault::Failed) => self.missed.fail(),
+            Err(WriteFault::NoMemory) => self.missed.refuse(),
+            Ok(()) => {}
+        }
+        result
+    }
+}
+
+/// The most bytes that one read asks for.
+const CHUNK: usize = 65536;
+
+/// Reads to the end, and takes at most `limit + 1` bytes to find it. A read that gives nothing is
+/// the end.
+fn read_up_to<I: io::Read>(from: &mut I, alloc: Global, limit: u64) -> Result<Vec<u8>, ReadFault>
+    ensures within { IfOk result (λ bytes. length bytes.items ≤ limit) }
+    ensures gives { IfSome (I.remaining from.old) (λ left. StreamGives left limit result) }
+{
+    let mut bytes = Vec::new(alloc);
+    let mut chunk = [0; CHUNK];
+    while bytes.len() as u64 <= limit {
+        let room = (limit - bytes.len() as u64).saturating_add(1);
+        let asked = room.min(CHUNK as u64) as usize;
+        let count = read_part(from, &mut chunk[..asked])?;
+        if count == 0 {
+            return Ok(bytes);
+        }
+        bytes.extend_from_slice(&chunk[..count])?;
+    }
+    Err(ReadFault::TooLong)
+}
+
+/// Writes the whole piece. A write that takes nothing is a failure, and so is want of memory once
+/// a part was written.
+fn write_whole<W: io::Write>(to: &mut W, piece: &[u8]) -> Result<(), WriteFault>
+    ensures { StreamTakes (W.contents to.old) (W.contents to.new) piece.now result }
+{
+    let mut written = 0;
+    while written < piece.len() {
+        match write_part(to, &piece[written..]) {
+            Ok(0) => return Err(WriteFault::Failed),
+            Ok(count) => written += count,
+            Err(error) if written == 0 => return Err(WriteFault::from(error)),
+            Err(_) => return Err(WriteFault::Failed),
+        }
+    }
+    Ok(())
+}
+
+/// Reads a first part of what is left. An interrupted read is made again, up to 2^64 - 1 times.
+/// Steps: one read, without those interrupted. Waits: as its reader. By: `bound`; read off.
+pub fn read_part<I: io::Read>(from: &mut I, out: &mut [u8]) -> io::Result<usize>
+    ensures bound { ReadsAtMost result out.new }
+    ensures bytes { ReadConsumes (I.remaining from.old) (I.remaining from.new) result out.new }
+{
+    for _ in 0..u64::MAX {
+        match from.read(out) {
+            Err(error) if error.kind() == ErrorKind::Interrupted => {}
+            answer => return answer,
+        }
+    }
+    Err(io::Error::from(ErrorKind::Interrupted))
+}
+
+/// Writes a first part of the piece. An interrupted write is made again, up to 2^64 - 1 times.
+fn write_part<W: io::Write>(to: &mut W, piece: &[u8]) -> io::Result<usize>
+    ensures bound { WritesAtMost result piece.now }
+    ensures bytes { WriteAppends (W.contents to.old) (W.contents to.new) result piece.now }
+{
+    for _ in 0..u64::MAX {
+        match to.write(piece) {
+            Err(error) if error.kind() == ErrorKind::Interrupted => {}
+            answer => return answer,
+        }
+    }
+    Err(io::Error::from(ErrorKind::Interrupted))
 }

@@ -9,28 +9,17 @@
 //! fails, nor that memory suffices.
 #![tactic(auto)]
 
-mod count;
 mod fault_log;
 mod faults;
 mod host_shelf;
-mod host_sink;
-mod memory_files;
 mod memory_shelf;
 mod memory_sink;
-mod missed;
-mod opener;
-mod script;
 mod shelf;
-mod sink;
 mod steady_shelf;
-mod streams;
 
 pub use faults::{FaultKind, ReadFault, WriteFault};
-pub use host_shelf::HostShelf;
-pub use host_sink::HostSink;
+pub use host_shelf::{HostShelf, HostSink, read_part};
 pub use memory_shelf::MemoryShelf;
 pub use memory_sink::MemorySink;
-pub use shelf::Shelf;
-pub use sink::Sink;
+pub use shelf::{Shelf, Sink};
 pub use steady_shelf::SteadyShelf;
-pub use streams::read_part;

@@ -1,16 +1,60 @@
-//! A shelf in memory, whose calls can be made to fail.
+//! Files in memory by name, and a shelf of them, whose calls can be made to fail.
 
-ghost use Rattle.std.specs.Prelude.{◌≡◌, ◌≤◌, length, option_map, IfOk, OnErr, IsTrue};
-ghost use Rattle.ids_outside.specs.{no_faults, ReadCause, WriteCause, SameFiles, ReadGives, CreateMakes, AppendMakes, given_files, names_differ, Create, Append, CountsCall, ReadFollows, WriteFollows, telling};
+ghost use Rattle.std.specs.Prelude.{◌≡◌, ◌≤◌, length, option_map, Some, string_bytes, IfOk, OnOk, OnErr, IsTrue};
+ghost use Rattle.ids_outside.specs.{no_faults, ReadCause, WriteCause, SameFiles, ReadGives, CreateMakes, AppendMakes, Changes, Adds, given_files, files_in, names_differ, Create, Append, CountsCall, ReadFollows, WriteFollows, telling};
+ghost use Rattle.ids_outside.specs.Bodies.{shelf_files, shelf_faults, shelf_plan};
 
-use crate::fault_log::FaultLog;
+use crate::fault_log::{FaultLog, Script};
 use crate::faults::{FaultKind, ReadFault, WriteFault};
-use crate::memory_files::{add_piece, keep, keep_all};
-use crate::script::Script;
 use crate::shelf::Shelf;
 use ids_types::NoMemory;
-use std::alloc::Global;
+use std::alloc::{AllocError, Global};
 use std::collections::BTreeMap;
+
+/// Keeps all these files, by name. Of those of one name the last one stays.
+pub(crate) fn keep_all(
+    alloc: Global,
+    files: Vec<(String, Vec<u8>)>,
+) -> Result<BTreeMap<String, Vec<u8>>, AllocError>
+    ensures { IfOk result (λ kept. SameFiles (given_files files.items) (files_in kept)) }
+{
+    let mut kept = BTreeMap::new(alloc);
+    for (name, bytes) in files {
+        keep(&mut kept, name, bytes)?;
+    }
+    Ok(kept)
+}
+
+/// Keeps these bytes as the file of this name.
+pub(crate) fn keep(
+    files: &mut BTreeMap<String, Vec<u8>>,
+    name: String,
+    bytes: Vec<u8>,
+) -> Result<(), AllocError>
+    ensures ok { OnOk result (Changes (files_in files.old) (files_in files.new)
+        (string_bytes name) (Some bytes.items)) }
+    ensures err { OnErr result (SameFiles (files_in files.old) (files_in files.new)) }
+{
+    files.insert(name, bytes)?;
+    Ok(())
+}
+
+/// Adds the piece to the file of this name, under `key`, a copy of the name, where it is not there.
+pub(crate) fn add_piece(
+    alloc: Global,
+    files: &mut BTreeMap<String, Vec<u8>>,
+    name: &str,
+    key: String,
+    piece: &[u8],
+) -> Result<(), AllocError>
+    requires { string_bytes key ≡ name.now }
+    ensures { Adds (files_in files.old) (files_in files.new) name.now piece.now result }
+{
+    if let Some(bytes) = files.get_mut(name) {
+        return bytes.extend_from_slice(piece);
+    }
+    keep(files, key, piece.to_vec(alloc)?)
+}
 
 /// A shelf that keeps its files in memory, for tests. The calls whose numbers are listed fail.
 #[derive(Debug, Drop)]
@@ -22,8 +66,6 @@ pub struct MemoryShelf {
 }
 
 impl MemoryShelf {
-    ghost use Rattle.ids_outside.specs.Bodies.{shelf_files, shelf_faults, shelf_plan};
-
     /// A shelf of these files, no two of one name. Its calls of `read`, `create` and `append` are
     /// numbered from 0, and those in `fails` fail.
     /// Steps: each file's name among those before: files × log. Memory: may answer want of memory; its files grow
@@ -43,7 +85,7 @@ impl MemoryShelf {
         Ok(MemoryShelf {
             alloc,
             files: keep_all(alloc, files)?,
-            script: Script::new(fails),
+            script: Script { fails, calls: 0 },
             faults: FaultLog::new(),
         })
     }
@@ -60,7 +102,7 @@ impl MemoryShelf {
     pub fn fault_count(&self) -> u64
         ensures { result ≡ (shelf_faults self.now).count }
     {
-        self.faults.count()
+        self.faults.count
     }
 
     /// Which call failed last, and the name that it was given.
@@ -73,8 +115,6 @@ impl MemoryShelf {
 }
 
 impl Shelf for MemoryShelf {
-    ghost use Rattle.ids_outside.specs.Bodies.{shelf_files, shelf_faults, shelf_plan};
-
     ghost shows = { λ shelf. telling (shelf_files shelf) (shelf_faults shelf) };
 
     /// A read that is not listed fails only where the name is not there.

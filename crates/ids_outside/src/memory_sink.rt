@@ -2,11 +2,11 @@
 
 ghost use Rattle.std.specs.Prelude.{◌≡◌, [], IfOk, OnErr};
 ghost use Rattle.ids_outside.specs.{CountsCall, WriteFollows, no_misses, PutTakes, PutCause, hearing};
+ghost use Rattle.ids_outside.specs.Bodies.{sink_taken, sink_misses, sink_plan};
 
+use crate::fault_log::{Missed, Script};
 use crate::faults::WriteFault;
-use crate::missed::Missed;
-use crate::script::Script;
-use crate::sink::Sink;
+use crate::shelf::Sink;
 use ids_types::NoMemory;
 use std::alloc::Global;
 
@@ -19,8 +19,6 @@ pub struct MemorySink {
 }
 
 impl MemorySink {
-    ghost use Rattle.ids_outside.specs.Bodies.{sink_taken, sink_misses, sink_plan};
-
     /// A sink that has taken nothing. Its puts are numbered from 0, and those in `fails` fail.
     /// Memory: none; its answer has NoMemory, and no path gives it. By: no loop; an empty list takes none.
     pub fn make(alloc: Global, fails: Vec<u64>) -> Result<MemorySink, NoMemory>
@@ -31,7 +29,7 @@ impl MemorySink {
     {
         Ok(MemorySink {
             taken: Vec::new(alloc),
-            script: Script::new(fails),
+            script: Script { fails, calls: 0 },
             missed: Missed::new(),
         })
     }
@@ -47,13 +45,11 @@ impl MemorySink {
     pub fn fault_count(&self) -> u64
         ensures { result ≡ (sink_misses self.now).failed }
     {
-        self.missed.failed()
+        self.missed.failed
     }
 }
 
 impl Sink for MemorySink {
-    ghost use Rattle.ids_outside.specs.Bodies.{sink_taken, sink_misses, sink_plan};
-
     ghost hears = { λ sink. hearing (sink_taken sink) (sink_misses sink) };
 
     /// A put that fails takes nothing.

@@ -2,12 +2,13 @@
 
 ghost use Rattle.std.specs.Prelude.{◌≡◌, ◌≢◌, ◌≤◌, length, option_map, IfOk, Err};
 ghost use Rattle.ids_outside.specs.{ReadCause, WriteCause, SameFiles, ReadGives, CreateMakes, AppendMakes, empty_elsewhere, given_files, Create, Append, telling};
+ghost use Rattle.ids_outside.specs.Bodies.{steady_files, steady_faults};
 ghost use Rattle.ids_outside.specs.declared.faults.ReadFault.TheVariants as read;
 ghost use Rattle.ids_outside.specs.declared.faults.WriteFault.TheVariants as write;
 
 use crate::fault_log::FaultLog;
 use crate::faults::{ReadFault, WriteFault};
-use crate::memory_files::{add_piece, keep, keep_all};
+use crate::memory_shelf::{add_piece, keep, keep_all};
 use crate::shelf::Shelf;
 use ids_types::NoMemory;
 use std::alloc::Global;
@@ -23,8 +24,6 @@ pub struct SteadyShelf {
 }
 
 impl SteadyShelf {
-    ghost use Rattle.ids_outside.specs.Bodies.{steady_files};
-
     /// A shelf of these files. Of those of one name the last one stays.
     /// Steps: each file's name among those before: files × log. Memory: may answer want of memory; its files grow
     /// later. By: read off.
@@ -48,8 +47,6 @@ impl SteadyShelf {
 }
 
 impl Shelf for SteadyShelf {
-    ghost use Rattle.ids_outside.specs.Bodies.{steady_files, steady_faults};
-
     ghost shows = { λ shelf. telling (empty_elsewhere (steady_files shelf)) (steady_faults shelf) };
 
     /// A name that is not there reads as empty, and stays absent.

@@ -1,5 +1,5 @@
 use Rattle.std.specs.Io.KnownBytes.{Keeps}
-use Rattle.ids_outside.proofs.streams.write_part.Given as goal
+use Rattle.ids_outside.proofs.host_shelf.write_part.Given as goal
 
 -- an interrupted write takes nothing
 abbrev pub invariant-loop : goal.invariant-loop

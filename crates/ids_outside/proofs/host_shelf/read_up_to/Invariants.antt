@@ -1,6 +1,6 @@
 use Rattle.std.proofs.Common.{◌+◌, ◌-◌, vec_len}
 use Rattle.std.specs.Io.KnownBytes.{Consumes}
-use Rattle.ids_outside.proofs.streams.read_up_to.Given as goal
+use Rattle.ids_outside.proofs.host_shelf.read_up_to.Given as goal
 
 -- the bytes so far are those that the reader has lost
 abbrev pub invariant-loop-chunk : goal.invariant-loop-chunk

@@ -1,6 +1,6 @@
 use Rattle.std.proofs.Common.{rules, sym}
 use Rattle.ids_outside.proofs.MemoryFilesLemmas.{changes_from_growth}
-use Rattle.ids_outside.proofs.memory_files.add_piece.Goals as goal
+use Rattle.ids_outside.proofs.memory_shelf.add_piece.Goals as goal
 
 -- what was written through the loan stands at the name
 pub returns-in-Some : goal.returns-in-Some

@@ -1,5 +1,5 @@
 use Rattle.ids_outside.proofs.MemoryFilesLemmas.{changes_from_updates}
-use Rattle.ids_outside.proofs.memory_files.keep.Goals as goal
+use Rattle.ids_outside.proofs.memory_shelf.keep.Goals as goal
 
 -- the map was updated at the name
 pub returns-clause-ok : goal.returns-clause-ok

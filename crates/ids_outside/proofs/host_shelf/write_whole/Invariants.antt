@@ -1,6 +1,6 @@
 use Rattle.std.proofs.Common.{◌≤◌, ◌-◌, length, take}
 use Rattle.std.specs.Io.KnownBytes.{Appends}
-use Rattle.ids_outside.proofs.streams.write_whole.Given as goal
+use Rattle.ids_outside.proofs.host_shelf.write_whole.Given as goal
 
 -- the first part of the piece is written
 abbrev pub invariant-loop-written : goal.invariant-loop-written
