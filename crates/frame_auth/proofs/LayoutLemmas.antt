@@ -1,7 +1,11 @@
--- A sealed message by its bytes: the plain one, marked in its first byte, and the signature part after it.
-use Rattle.frame_auth.proofs.Names.{◌≡◌, ℕ, zero, suc, IsByte, AreBytes, ◌+◌, ◌*◌, ◌^◌, ◌≤◌, ◌<◌, List, [], ◌∷◌, ◌++◌, length, take, drop, Option, Some, None, refl, sym, ap, subst, ◌∙◌, arith, length-append, w16, w64, to_be_bytes, MessageParts, FitsMessage, BeginsWith, header, spelling, joined, with_signature, bare, hmac, seal_of, sealed, joined_sealed, IsPlain, ArePlain, IsSealedWith, HasNoSeal, HasOtherCounter, Moves, marked, sealed_bytes, CanUnmark, unmarked, rules, common_steps, sha256, digest_bytes, ◌≢◌, IfSome, Bor, is_some, option_copied, false, take_at, drop_at, All-append, be_bytes_8}
+-- A sealed message by its bytes: the plain one, marked in its first byte, and the signature part after it. Then going over
+-- messages one by one, and tags.
+use Rattle.frame_auth.proofs.Names.{◌≡◌, ℕ, zero, suc, IsByte, AreBytes, ◌+◌, ◌*◌, ◌^◌, ◌≤◌, ◌<◌, List, [], ◌∷◌, ◌++◌, length, take, drop, Option, Some, None, refl, sym, ap, ◌∙◌, arith, length-append, w16, w64, to_be_bytes, MessageParts, FitsMessage, BeginsWith, spelling, joined, with_signature, bare, hmac, seal_of, sealed, joined_sealed, IsPlain, ArePlain, IsSealedWith, HasNoSeal, HasOtherCounter, Moves, marked, sealed_bytes, CanUnmark, unmarked, rules, common_steps, sha256, digest_bytes, ◌≢◌, IfSome, Bor, is_some, option_copied, false, All-append, be_bytes_8, ◌-◌, ◌==◌, ◌⊎◌, inl, inr, append_assoc, BeginsSo, StopsBehind, get_or, same_number_lists, and_le_l, and_le_r, le_or_l, le_or_r, masked, subst, take_at, drop_at, header}
 use Rattle.ids_frame.proofs.NumberLemmas.{wide32, wide64}
 use Rattle.sha2.proofs.Facts256.{length-sha256}
+use Rattle.std.proofs.Math.ListN.{set}
+use Rattle.std.proofs.lemmas.List.Edits.{map_over_more}
+use Rattle.std.specs.Int.Bits.{bit_xor, bit_or, xor_self}
 
 -- a seal has 40 bytes
 pub length-seal_of : (key : List ℕ) (counter : ℕ) (plain : List ℕ) → length (seal_of key counter plain) ≡ 40
@@ -142,3 +146,73 @@ moved key part due m rest behind old new spelled begins some size made is added 
 pub ruleset telling = (common_steps, be_bytes_8, seal_made, seal_parts)
 
 pub ruleset unsealing = (common_steps, unsealed_layout)
+
+-- ---- going over messages, each written as it is due: sealing reads plain ones and writes sealed ones, unsealing the other way round
+
+-- messages from a counter on are written one after the other, each plain one in a form of its own, which tells it
+pub record Writes (write : ℕ → List MessageParts → List ℕ) (form : ℕ → MessageParts → MessageParts) : Type 0 where
+  pub none : (due : ℕ) → write due [] ≡ []
+  pub more : (due : ℕ) (m : MessageParts) (ms : List MessageParts) → write due (m ∷ ms) ≡ spelling (form due m) ++ write (due + 1) ms
+  pub fits : (due : ℕ) (m : MessageParts) → IsPlain m → FitsMessage (form due m)
+  pub same : (due : ℕ) (m n : MessageParts) → IsPlain m → IsPlain n → form due m ≡ form due n → m ≡ n
+
+pub writes_plain : Writes (λ due ms. joined ms) (λ due m. m)
+writes_plain = search rules
+
+pub writes_sealed : (key : List ℕ) → Writes (joined_sealed key) (sealed key)
+writes_sealed key = grind (arith, common_steps, bare_is, sealed_fits)
+
+-- one message more
+written_more : {write : ℕ → List MessageParts → List ℕ} {form : ℕ → MessageParts → MessageParts} → Writes write form
+    → (due now : ℕ) (ms : List MessageParts) (m : MessageParts) → now ≡ due + length ms
+    → write due (ms ++ m ∷ []) ≡ write due ms ++ spelling (form now m)
+written_more {write} {form} w due now [] m e = search rules
+written_more {write} {form} w due now (x ∷ ms) m e = grind (arith, common_steps, append_assoc, written_more w (due + 1) now ms m (omega arith))
+
+-- so far some messages were read and written, and the next is due
+pub record Goes (from to : ℕ → List MessageParts → List ℕ) (start due : ℕ) (bytes rest out : List ℕ) : Type 0 where
+  pub front : List MessageParts
+  pub are_plain : ArePlain front
+  pub read : bytes ≡ from start front ++ rest
+  pub written : out ≡ to start front
+  pub next : due ≡ start + length front
+  pub few : length front * 8 ≤ length (from start front)
+
+length-spelling : (m : MessageParts) → 8 ≤ length (spelling m)
+length-spelling m = omega arith
+
+-- and then one more
+pub goes_on : {from to : ℕ → List MessageParts → List ℕ} {form other : ℕ → MessageParts → MessageParts} {start due : ℕ}
+    {bytes rest behind out new : List ℕ} → Writes from form → Writes to other → Goes from to start due bytes rest out
+    → Moves (form due) (other due) rest behind out new → Goes from to start (due + 1) bytes behind new
+goes_on {from} {to} {form} {other} {start} {due} {bytes} {rest} {behind} {out} {new} w v g move =
+    let read = written_more w start due g.front move.message g.next in
+    grind (arith, common_steps, append_assoc, written_more, length-append, length-spelling)
+
+-- a fault of the next message is the first one
+pub stops_here : {F : Type 0} {none fault : F} {from to : ℕ → List MessageParts → List ℕ} {start due : ℕ} {bytes rest out : List ℕ}
+    (Why : F → (due at : ℕ) → List ℕ → Type 0) → Goes from to start due bytes rest out → (length rest == 0) ≡ false
+    → (fault ≡ none) ⊎ Why fault due (length bytes - length rest) rest
+    → (fault ≡ none) ⊎ StopsBehind (from start) (λ at count. Why fault (start + count) at) bytes
+stops_here Why g some (inl is) = inl is
+stops_here {rest = []} Why g some (inr why) = absurd (cc some)
+stops_here {rest = next ∷ rest} Why g some (inr why) = grind (arith, common_steps)
+
+-- what holds of the message that the bytes begin with
+pub begins_so : {P : MessageParts → Type 0} {bytes behind : List ℕ} {m : MessageParts} → BeginsWith bytes m behind → P m → BeginsSo P bytes
+begins_so {P} {bytes} {behind} {m} begins holds = record { message = m; behind = behind; begins = begins; holds = holds }
+
+-- ---- tags: masks, and what a difference of bytes is
+
+-- one byte more is masked
+pub mask_more : (mask i : ℕ) (bytes block : List ℕ) → i < length block → block ≡ masked mask (take i bytes) ++ drop i bytes
+    → set block i (bit_xor (get_or block i 0) mask) ≡ masked mask (take (i + 1) bytes) ++ drop (i + 1) bytes
+mask_more mask i bytes block within so_far =
+    grind (arith, common_steps, map_over_more (λ byte. bit_xor byte mask) bytes block i (get_or block i 0))
+
+-- where no difference is found there was none before, and the bytes are the same
+pub no_difference : (found x y : ℕ) → bit_or found (bit_xor x y) ≡ 0 → (found ≡ 0) × (x ≡ y)
+no_difference found x y none = grind (arith, common_steps, le_or_r, le_or_l, and_le_l, and_le_r)
+
+-- what comparing two tags needs
+pub ruleset comparing = (no_difference, xor_self, same_number_lists)

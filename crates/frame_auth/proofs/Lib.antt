@@ -2,5 +2,3 @@ pub mod LayoutLemmas
 pub mod Names
 pub mod OneAnswer
 pub mod OrderLemmas
-pub mod TagLemmas
-pub mod WalkLemmas

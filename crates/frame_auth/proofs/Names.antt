@@ -5,7 +5,7 @@ pub use Rattle.std.specs.Int.{w16, w64, to_be_bytes}
 pub use Rattle.std.specs.List.{AllByRecursion}
 unfoldable pub use Rattle.sha2.specs.Sha256.{sha256, digest_bytes}
 pub use Rattle.ids_frame.specs.{IsByte, AreBytes, MessageParts, FitsMessage, flag, header, spelling, joined, BeginsWith, Begins, Begun}
-pub use Rattle.frame_auth.specs.{hmac, with_signature, bare, seal_of, sealed, joined_sealed, Copies, IsPlain, ArePlain, IsSealedWith, HasNoSeal, HasOtherCounter, Moves, marked, sealed_bytes, CanUnmark, unmarked, StopsBehind, CannotRead, BeginsSo, StopsSeal, StopsUnseal, Gives, GivesSealed, GivesUnsealed}
+pub use Rattle.frame_auth.specs.{hmac, with_signature, bare, seal_of, sealed, joined_sealed, Copies, IsPlain, ArePlain, IsSealedWith, HasNoSeal, HasOtherCounter, Moves, marked, sealed_bytes, CanUnmark, unmarked, StopsBehind, CannotRead, BeginsSo, StopsSeal, StopsUnseal, Gives, GivesSealed, GivesUnsealed, SealFault, UnsealFault, AreOf, IsOutOfOrder, AnswersInOrder, sealed_from, masked}
 pub use Rattle.std.proofs.lemmas.Grind.{common_steps, same_number_lists, flat_map-append}
 pub use Rattle.std.proofs.lemmas.List.Elements.{All-append, All-take, All-from_recursion, recursion_from_All}
 pub use Rattle.std.proofs.lemmas.Nat.{and_le_l, and_le_r, le_or_l, le_or_r, be_bytes_8}

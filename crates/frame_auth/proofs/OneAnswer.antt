@@ -1,12 +1,10 @@
 -- What sealing gives is one answer, and so is what unsealing gives.
-use Rattle.frame_auth.proofs.Names.{◌≡◌, ℕ, ◌+◌, List, [], ◌∷◌, ◌++◌, length, Result, Ok, Err, refl, sym, ap, subst, ◌∙◌, append_assoc, arith, append-nil, AreBytes, MessageParts, spelling, joined, BeginsWith, Begins, Begun, sealed, joined_sealed, Copies, IsPlain, ArePlain, HasNoSeal, HasOtherCounter, StopsBehind, CannotRead, BeginsSo, StopsSeal, StopsUnseal, Gives, GivesSealed, GivesUnsealed, rules, common_steps}
+use Rattle.frame_auth.proofs.Names.{◌≡◌, ℕ, ◌+◌, List, [], ◌∷◌, ◌++◌, length, Result, Ok, Err, refl, sym, ap, subst, ◌∙◌, append_assoc, arith, append-nil, AreBytes, MessageParts, spelling, joined, BeginsWith, Begins, Begun, sealed, joined_sealed, Copies, IsPlain, ArePlain, HasNoSeal, HasOtherCounter, StopsBehind, CannotRead, BeginsSo, StopsSeal, StopsUnseal, Gives, GivesSealed, GivesUnsealed, rules, common_steps, SealFault, UnsealFault}
 use Rattle.ids_frame.specs.declared.fault.BadMessage.{BadMessage}
 use Rattle.ids_frame.proofs.MessageLemmas.{one_message_lem, read_of}
 use Rattle.ids_frame.proofs.PartLemmas.{behind_bytes}
-use Rattle.frame_auth.specs.{SealFault, UnsealFault}
 use Rattle.frame_auth.specs.declared.fault.UnsealFault.TheVariants as unseals
-use Rattle.frame_auth.proofs.LayoutLemmas.{sealed_is}
-use Rattle.frame_auth.proofs.WalkLemmas.{Writes, writes_plain, writes_sealed}
+use Rattle.frame_auth.proofs.LayoutLemmas.{sealed_is, Writes, writes_plain, writes_sealed}
 
 -- the bytes begin with a plain message in the form that is due
 record MayGo (form : ℕ → MessageParts → MessageParts) (due : ℕ) (bytes : List ℕ) : Type 0 where
@@ -126,17 +124,15 @@ unseal_faults key = record { stuck = stuck; one = one }
 
     one : (f g : UnsealFault) (due at : ℕ) (bytes : List ℕ) → AreBytes bytes → StopsUnseal key due f at bytes → StopsUnseal key due g at bytes
         → f ≡ g
+    one unseals.NoMemory g due at bytes fit p q = absurd p
+    one f unseals.NoMemory due at bytes fit p q = absurd q
     one (unseals.Bad f) (unseals.Bad g) due at bytes fit p q = ap unseals.Bad (bad_one at bytes f g fit p q)
-    one (unseals.Bad f) (unseals.Tag b) due at bytes fit p q = absurd (bad_apart at bytes f _ _ fit p q.1.begins)
-    one (unseals.Bad f) (unseals.Counter b) due at bytes fit p q = absurd (bad_apart at bytes f _ _ fit p q.1.begins)
-    one (unseals.Tag a) (unseals.Bad g) due at bytes fit p q = absurd (bad_apart at bytes g _ _ fit q p.1.begins)
-    one (unseals.Counter a) (unseals.Bad g) due at bytes fit p q = absurd (bad_apart at bytes g _ _ fit q p.1.begins)
+    one (unseals.Bad f) g due at bytes fit p q = absurd (bad_apart at bytes f _ _ fit p q.1.begins)
+    one f (unseals.Bad g) due at bytes fit p q = absurd (bad_apart at bytes g _ _ fit q p.1.begins)
     one (unseals.Tag a) (unseals.Tag b) due at bytes fit p q = ap (λ place. unseals.Tag place) (p.0 ∙ sym q.0)
     one (unseals.Counter a) (unseals.Counter b) due at bytes fit p q = ap (λ place. unseals.Counter place) (p.0 ∙ sym q.0)
     one (unseals.Tag a) (unseals.Counter b) due at bytes fit p q = absurd (apart due bytes p.1 q.1)
     one (unseals.Counter a) (unseals.Tag b) due at bytes fit p q = absurd (apart due bytes q.1 p.1)
-    one unseals.NoMemory g due at bytes fit p q = absurd p
-    one f unseals.NoMemory due at bytes fit p q = absurd q
 
 -- ---- what is given
 

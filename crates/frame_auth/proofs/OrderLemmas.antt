@@ -1,14 +1,11 @@
 -- Messages of one sealed list: how many are taken, and where the first stands that is out of order.
-use Rattle.frame_auth.proofs.Names.{◌≡◌, ℕ, zero, suc, ◌+◌, ◌*◌, ◌^◌, ◌<◌, ◌≤◌, ◌⊎◌, inl, inr, List, [], ◌∷◌, ◌++◌, length, get_or, take, drop, None, Result, Ok, Err, refl, sym, ap, subst, ◌∙◌, arith, IsByte, MessageParts, FitsMessage, flag, header, spelling, joined, sealed, joined_sealed, AllByRecursion, ArePlain, IsPlain, IsSealedWith, HasOtherCounter, GivesUnsealed, rules, ◌↔◌, ◌≢◌, Option, add-one, flat_map-append, take-append-drop, take_more, take_more_same, same_from_push, at_drop_more, length-take, length-take-le, get_or_default, All-take, All-from_recursion, recursion_from_All}
+use Rattle.frame_auth.proofs.Names.{common_steps, ◌≡◌, ℕ, zero, suc, ◌+◌, ◌*◌, ◌^◌, ◌<◌, ◌≤◌, ◌⊎◌, inl, inr, List, [], ◌∷◌, ◌++◌, length, get_or, take, drop, None, Result, Ok, Err, refl, sym, ap, subst, ◌∙◌, arith, IsByte, MessageParts, FitsMessage, flag, header, spelling, joined, sealed, joined_sealed, AllByRecursion, ArePlain, IsPlain, IsSealedWith, HasOtherCounter, GivesUnsealed, rules, ◌↔◌, ◌≢◌, Option, add-one, flat_map-append, take-append-drop, take_more, take_more_same, same_from_push, at_drop_more, length-take, length-take-le, get_or_default, All-take, All-from_recursion, recursion_from_All, UnsealFault, AreOf, IsOutOfOrder, AnswersInOrder, sealed_from}
 use Rattle.std.specs.Prelude.{Contains, AllPairs}
 use Rattle.std.proofs.lemmas.Bool.{cases_eq}
 use Rattle.std.proofs.Math.Seq.{take-length}
-use Rattle.frame_auth.specs.{UnsealFault, AreOf, IsOutOfOrder, AnswersInOrder, sealed_from}
 use Rattle.frame_auth.specs.declared.fault.UnsealFault.TheVariants as unseals
-use Rattle.frame_auth.proofs.LayoutLemmas.{sealed_is, sealed_fits, other_counter}
-use Rattle.frame_auth.proofs.WalkLemmas.{begins_so}
+use Rattle.frame_auth.proofs.LayoutLemmas.{sealed_is, sealed_fits, other_counter, begins_so}
 use Rattle.frame_auth.proofs.OneAnswer.{one_unsealing_lem}
-use Rattle.std.proofs.lemmas.Grind.{common_steps}
 
 -- ---- messages by their counters
 
@@ -143,8 +140,7 @@ module _ (key : List ℕ) (start : ℕ) (signed messages : List MessageParts) (p
 -- ---- what is answered
 
 bytes_append : (xs ys : List ℕ) → AllByRecursion IsByte xs → AllByRecursion IsByte ys → AllByRecursion IsByte (xs ++ ys)
-bytes_append [] ys all more = more
-bytes_append (x ∷ xs) ys all more = (all.0, bytes_append xs ys all.1 more)
+bytes_append xs ys all more = grind (arith, common_steps)
 
 flag_few : {A : Type 0} (part : Option A) → flag part ≤ 1
 flag_few part = search rules

@@ -1,5 +1,4 @@
 pub mod Faults
-pub mod KeyView
 pub mod Layout
 pub mod Order
 pub mod Sealing

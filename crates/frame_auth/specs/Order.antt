@@ -27,6 +27,4 @@ abbrev pub AnswersInOrder : (key : List ℕ) (start : ℕ) (signed messages : Li
 AnswersInOrder key start signed messages (Ok out) =
     AreFirst (sealed_from key start signed) messages × (out ≡ joined (take (length messages) signed))
 AnswersInOrder key start signed messages (Err (unseals.Counter at)) = IsOutOfOrder (sealed_from key start signed) messages at
-AnswersInOrder key start signed messages (Err (unseals.Bad bad)) = ⊥
-AnswersInOrder key start signed messages (Err (unseals.Tag at)) = ⊥
-AnswersInOrder key start signed messages (Err unseals.NoMemory) = ⊥
+AnswersInOrder key start signed messages answer = ⊥

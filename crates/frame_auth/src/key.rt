@@ -26,7 +26,7 @@ pub struct Key {
 
 impl Model for Key {
     ghost use Rattle.std.specs.Prelude.{ℕ, List};
-    ghost use Rattle.frame_auth.specs.KeyView.{IsTakenIn};
+    ghost use Rattle.frame_auth.specs.Tags.{IsTakenIn};
 
     ghost Value = { List ℕ };
 
@@ -63,7 +63,7 @@ fn put_front(block: &mut [u8], bytes: &[u8])
 }
 
 /// A digest that has taken in the block, masked.
-#[tactic(auto, using(crate::proofs::TagLemmas::mask_more))]
+#[tactic(auto, using(crate::proofs::LayoutLemmas::mask_more))]
 fn taken_in(block: [u8; BLOCK], mask: u8) -> Sha256
     ensures { Holds256 result (masked mask block) }
 {

@@ -10,7 +10,6 @@
 mod fault;
 mod key;
 mod laws;
-mod reading;
 mod sealing;
 mod unsealing;
 

@@ -1,10 +1,11 @@
 //! Sealing messages.
 ghost use Rattle.std.specs.Prelude.{◌≡◌, ◌⊎◌, ◌++◌, ◌^◌, ◌≤◌, IfOk, IfErr, OnOk};
-ghost use Rattle.frame_auth.specs.{GivesSealed, StopsSeal, Moves, CanMark, sealed_bytes, sealed};
+ghost use Rattle.ids_frame.specs.{spelling, BeginsWith};
+ghost use Rattle.frame_auth.specs.{CannotRead, GivesSealed, StopsSeal, Moves, CanMark, sealed_bytes, sealed};
 
 use crate::fault::SealFault;
 use crate::key::{Key, tag};
-use crate::reading::first_message;
+use ids_frame::{BadMessage, Message, decode};
 use std::alloc::{AllocError, Global};
 
 /// The bit of a message's first byte that announces a signature part.
@@ -67,4 +68,22 @@ fn push_sealed(out: &mut Vec<u8>, key: &Key, counter: u64, plain: &[u8]) -> Resu
     out.extend_from_slice(&SEAL_LEN.to_be_bytes())?;
     out.extend_from_slice(&counter)?;
     out.extend_from_slice(&tag(key, plain, &counter))
+}
+
+/// The message at the front, its spelling, and the bytes after it. `at` is where the bytes stand.
+pub(crate) fn first_message(
+    bytes: &[u8],
+    at: usize,
+) -> Result<(Message<'_>, &[u8], &[u8]), BadMessage>
+    ensures begins { IfOk result (λ x. BeginsWith bytes.now x.0 x.2.now) }
+    ensures spelled { IfOk result (λ x. x.1.now ≡ spelling x.0) }
+    ensures bad { IfErr result (λ bad. CannotRead bad at bytes.now) }
+{
+    match decode(bytes) {
+        Ok((message, size)) => {
+            let (spelled, behind) = bytes.split_at(size);
+            Ok((message, spelled, behind))
+        }
+        Err(fault) => Err(BadMessage { at, fault }),
+    }
 }

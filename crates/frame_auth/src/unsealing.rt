@@ -4,8 +4,7 @@ ghost use Rattle.frame_auth.specs.{GivesUnsealed, StopsUnseal, Moves, CanUnmark,
 
 use crate::fault::UnsealFault;
 use crate::key::{Key, tag};
-use crate::reading::first_message;
-use crate::sealing::SIGNATURE_BIT;
+use crate::sealing::{SIGNATURE_BIT, first_message};
 use std::alloc::{AllocError, Global};
 
 /// How many bytes a message's signature part has with a seal: two of its length, and the seal.
@@ -94,7 +93,7 @@ fn counter_of(key: &Key, plain: &[u8], counter: &[u8; 8], told: &[u8; 32]) -> Op
 }
 
 // Whether two tags are the same. It looks at all bytes of both, also after one that differs.
-#[tactic(auto, using(crate::proofs::TagLemmas::comparing))]
+#[tactic(auto, using(crate::proofs::LayoutLemmas::comparing))]
 fn are_same(a: &[u8; 32], b: &[u8; 32]) -> bool
     ensures { IsTrue result ↔ (a.now ≡ b.now) }
 {

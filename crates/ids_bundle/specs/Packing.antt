@@ -3,8 +3,7 @@ use Rattle.std.specs.Prelude.{◌≡◌, ℕ, ◌<◌, ◌≤◌, List, length, 
 use Rattle.ids_frame.specs.{MessageParts, FitsMessage, spelling, BeginsWith, CauseOf}
 use Rattle.ids_bundle.specs.declared.fault.PackFault.{PackFault}
 use Rattle.ids_bundle.specs.declared.fault.PackFault.TheVariants.{Bad, TooLarge, NoMemory}
-use Rattle.ids_bundle.specs.Reading.{AreTexts, StopsBehind}
-use Rattle.ids_bundle.specs.Units.{Run}
+use Rattle.ids_bundle.specs.Units.{Run, AreTexts, StopsBehind}
 use Rattle.ids_bundle.specs.Cuts.{IsPacked}
 
 -- a message of at most so many bytes

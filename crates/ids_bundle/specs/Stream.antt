@@ -1,10 +1,13 @@
--- A stream of units that comes in pieces.
-use Rattle.std.specs.Prelude.{◌≡◌, ℕ, ◌≤◌, List, [], ◌∷◌, ◌++◌, length, take, ⊤}
+-- A stream of units that comes in pieces, and what contracts see of an `Unpacker`.
+use Rattle.std.specs.Prelude.{◌≡◌, ℕ, ◌≤◌, List, [], ◌∷◌, ◌++◌, length, take, ⊤, drop, vec_capacity}
 use Rattle.std.specs.List.{flat_map, AllByRecursion}
-use Rattle.ids_frame.specs.Messages.{joined}
+use Rattle.ids_frame.specs.Messages.{joined, messages_of}
 use Rattle.ids_bundle.specs.declared.unpacker.Fed.{Fed}
+use Rattle.ids_bundle.specs.Units.{Run, units, unit_size, FitsUnit, IsPart, IsBad, unit}
+use Rattle.ids_bundle.specs.declared.unpacker.State.{State}
+use Rattle.ids_bundle.specs.declared.unpacker.Unpacker.TheInside.{Inside}
 use Rattle.ids_bundle.specs.declared.unpacker.Fed.TheVariants as fed
-use Rattle.ids_bundle.specs.Units.{Run, units, unit_size, FitsUnit, IsPart, IsBad}
+use Rattle.ids_bundle.specs.declared.unpacker.State.TheVariants as states
 
 -- where a stream stands: within a unit of which these bytes came, right after the unit of a run, or stopped at
 -- these bytes, which are no unit
@@ -21,15 +24,13 @@ pending (stopped held) = held
 
 -- the messages of the unit that was given last
 abbrev pub body : Place → List ℕ
-body (within held) = []
 body (behind run) = joined run
-body (stopped held) = []
+body place = []
 
 -- the runs of the unit that was given last, none or one
 abbrev pub given : Place → List Run
-given (within held) = []
 given (behind run) = run ∷ []
-given (stopped held) = []
+given place = []
 
 -- the place is one that a stream can come to
 abbrev pub IsPlace : Place → Type 0
@@ -60,8 +61,7 @@ pub record Refuses (old : Place) (answer : Fed) (used : ℕ) (new : Place) : Typ
 -- a piece came, this was answered, so many of its bytes were used, and the stream stands at the new place
 abbrev pub Feeds : Place → List ℕ → Fed → ℕ → Place → Type 0
 Feeds (stopped held) piece answer used new = Refuses (stopped held) answer used new
-Feeds (within held) piece answer used new = Takes held piece answer used new
-Feeds (behind run) piece answer used new = Takes [] piece answer used new
+Feeds place piece answer used new = Takes (pending place) piece answer used new
 
 -- one call of `feed`
 pub record Call : Type 0 where
@@ -93,3 +93,26 @@ pub record StandsFor (place : Place) (stream : List ℕ) (runs : List Run) : Typ
   pub each : AllByRecursion FitsUnit runs
   pub whole : stream ≡ units runs ++ pending place
   pub at : IsPlace place
+
+-- ---- an `Unpacker`
+
+-- the place that the bytes held and the state mean
+abbrev pub place_by : State → List ℕ → Place
+place_by states.Within held = within held
+place_by states.Behind held = behind (messages_of (drop 4 held))
+place_by states.Stopped held = stopped held
+
+-- the bytes of the last unit are those of the run that is seen
+abbrev pub HoldsUnit : Place → List ℕ → Type 0
+HoldsUnit (behind run) held = held ≡ unit run
+HoldsUnit place held = ⊤
+
+-- where the fields stand
+abbrev pub place_of : Inside → Place
+place_of u = place_by u.state u.held.items
+
+-- there is room for the largest unit
+pub record IsSound (u : Inside) : Type 0 where
+  pub room : 65539 ≤ vec_capacity u.held
+  pub at : IsPlace (place_of u)
+  pub holds : HoldsUnit (place_of u) u.held.items

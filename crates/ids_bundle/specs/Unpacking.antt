@@ -2,8 +2,7 @@
 use Rattle.std.specs.Prelude.{◌≡◌, ℕ, List, Result, Err, ⊤}
 use Rattle.ids_bundle.specs.declared.fault.UnpackFault.{UnpackFault}
 use Rattle.ids_bundle.specs.declared.fault.UnpackFault.TheVariants.{Bad, Cut, NoMemory}
-use Rattle.ids_bundle.specs.Reading.{Reads}
-use Rattle.ids_bundle.specs.Units.{Run, unit, FitsUnit, IsPart, IsBad}
+use Rattle.ids_bundle.specs.Units.{Run, Reads, unit, FitsUnit, IsPart, IsBad}
 
 -- why unpacking stops before these bytes, which begin at this place
 abbrev pub StopsAt : UnpackFault → ℕ → List ℕ → Type 0

@@ -10,16 +10,14 @@
 //! `feed` takes no memory.
 #![tactic(auto)]
 
-mod counting;
 mod fault;
 mod packing;
 mod unit;
 mod unpacker;
 mod unpacking;
 
-pub use counting::count;
 pub use fault::{PackFault, UnpackFault};
 pub use packing::{fewest_runs, one_pack_answer, one_packing, pack};
 pub use unit::Count;
 pub use unpacker::{Fed, Unpacker, any_pieces, one_reading};
-pub use unpacking::{one_unpack_answer, unpack, unpacks_again};
+pub use unpacking::{count, one_unpack_answer, unpack, unpacks_again};

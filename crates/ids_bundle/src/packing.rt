@@ -60,14 +60,14 @@ fn fitting(size: u16, bytes: &[u8], at: usize) -> Result<usize, PackFault>
 }
 
 /// No cut into runs of that size has fewer runs than the greedy one.
-#[tactic(auto, using(crate::proofs::CutLemmas::fewest_lem))]
+#[tactic(auto, using(crate::proofs::PackLemmas::fewest_lem))]
 pub fn fewest_runs()
     ensures { (size : ℕ) (messages : List MessageParts) (packed runs : List Run) → IsPacked size messages packed
         → IsCutFor size messages runs → length packed ≤ length runs }
 {}
 
 /// There is one greedy cut.
-#[tactic(auto, using(crate::proofs::CutLemmas::one_packing_lem))]
+#[tactic(auto, using(crate::proofs::PackLemmas::one_packing_lem))]
 pub fn one_packing()
     ensures { (size : ℕ) (messages : List MessageParts) (packed others : List Run) → IsPacked size messages packed
         → IsPacked size messages others → packed ≡ others }

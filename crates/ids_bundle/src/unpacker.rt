@@ -2,8 +2,7 @@
 
 ghost use Rattle.std.specs.Prelude.{◌≡◌, ◌+◌, ◌-◌, ◌≤◌, ◌<◌, ◌++◌, [], ℕ, List, length, take, IfOk, vec_len, vec_capacity};
 ghost use Rattle.ids_bundle.specs.Units.{Run, IsPart, unit_size};
-ghost use Rattle.ids_bundle.specs.Stream.{Place, within, Call, AreCalls, Feeds, Takes, StandsFor, body, end_of, given_by, pending, used_by};
-ghost use Rattle.ids_bundle.specs.UnpackerView.{IsSound, place_by};
+ghost use Rattle.ids_bundle.specs.Stream.{Place, within, Call, AreCalls, Feeds, Takes, StandsFor, body, end_of, given_by, pending, used_by, IsSound, place_by};
 
 use crate::unit::{HEAD, is_unit, unit_size};
 use ids_types::NoMemory;
@@ -42,8 +41,7 @@ pub struct Unpacker {
 }
 
 impl Model for Unpacker {
-    ghost use Rattle.ids_bundle.specs.Stream.{Place};
-    ghost use Rattle.ids_bundle.specs.UnpackerView.{place_of, IsSound};
+    ghost use Rattle.ids_bundle.specs.Stream.{Place, place_of, IsSound};
 
     ghost Value = { Place };
 
@@ -103,7 +101,7 @@ impl Unpacker {
 }
 
 /// Takes bytes of the piece until a unit is whole, and tells what the held bytes are then.
-#[tactic(auto, using(crate::proofs::StreamLemmas::is_seen))]
+#[tactic(auto, using(crate::proofs::UnpackLemmas::is_seen))]
 fn take(held: &mut Vec<u8>, piece: &[u8]) -> (Fed, State)
     requires part { IsPart held.old.items }
     requires room { 65539 ≤ vec_capacity held.old }
@@ -152,14 +150,14 @@ fn fill_to(held: &mut Vec<u8>, size: usize, piece: &[u8]) -> usize
 
 /// However a stream was cut into pieces, the units given are its first ones, in their order, and what is pending
 /// stands after them; it stops at the first that is whole and no unit.
-#[tactic(auto, using(crate::proofs::StreamLemmas::any_pieces_lem))]
+#[tactic(auto, using(crate::proofs::UnpackLemmas::any_pieces_lem))]
 pub fn any_pieces()
     ensures { (calls : List Call) → AreCalls (within []) calls
         → StandsFor (end_of (within []) calls) (used_by calls) (given_by calls) }
 {}
 
 /// A stream has its units and what is pending after them in one way, so it is all the same how it was cut.
-#[tactic(auto, using(crate::proofs::StreamLemmas::one_reading_lem))]
+#[tactic(auto, using(crate::proofs::UnpackLemmas::one_reading_lem))]
 pub fn one_reading()
     ensures { (p q : Place) (stream : List ℕ) (runs others : List Run) → StandsFor p stream runs
         → StandsFor q stream others → (runs ≡ others) × (pending p ≡ pending q) }

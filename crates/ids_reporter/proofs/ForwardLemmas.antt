@@ -1,9 +1,6 @@
 -- What the taken pairs name is all sources merged.
-use Rattle.ids_reporter.proofs.Names.{◌≡◌, ℕ, zero, suc, ◌+◌, ◌<◌, ◌≤◌, inl, inr, List, [], ◌∷◌, ◌++◌, length, Option, Some, refl, ap, ◌∙◌, arith, indexes, upto, AreInOrder, Taken, Bool, true, ◌==◌, flat_map-append, get_or_past, filter_map-append, AllByRecursion, cons_option, filter_map, range_with_len, All, OnOk, Result, filter, if◌then◌else◌, is_ok, slice_get, MessageParts, joined, Drain, Feeder, One, AreMerged, named, named_by, AreAllTaken, back_of, feeders_of, taken_of, AreApart, Sources, count_at, instance_of, source_at, rules, common_steps}
-use Rattle.std.proofs.lemmas.Option.{slice_get_cases, slice_get_within}
-use Rattle.std.proofs.lemmas.Bool.Decides.{nat_tests}
+use Rattle.ids_reporter.proofs.Names.{◌≡◌, ℕ, zero, suc, ◌+◌, ◌<◌, ◌≤◌, inl, inr, List, [], ◌∷◌, ◌++◌, length, Option, Some, refl, ap, ◌∙◌, arith, indexes, upto, AreInOrder, Taken, Bool, true, ◌==◌, flat_map-append, get_or_past, filter_map-append, AllByRecursion, cons_option, filter_map, range_with_len, All, OnOk, Result, filter, if◌then◌else◌, is_ok, slice_get, MessageParts, joined, Drain, Feeder, One, AreMerged, named, named_by, AreAllTaken, back_of, feeders_of, taken_of, AreApart, Sources, count_at, instance_of, source_at, rules, common_steps, slice_get_cases, slice_get_within, nat_tests, AreAt, IsBackIn}
 use Rattle.ids_reporter.specs.declared.relay.Relay.{Relay}
-use Rattle.ids_reporter.specs.{AreAt, IsBackIn}
 use Rattle.ids_reporter.proofs.SourceLemmas.{instance_at}
 
 -- ---- what a pair names

@@ -1,10 +1,20 @@
--- Each move keeps the rule.
-use Rattle.ids_reporter.proofs.Names.{◌≡◌, ◌≢◌, ℕ, ◌+◌, ◌<◌, ◌≤◌, ◌⊎◌, inr, List, [], ◌∷◌, ◌++◌, length, Some, None, refl, sym, ap, ◌∙◌, append_assoc, arith, length-append, length-range_with_len, Option, indexes, upto, Taken, ◌==◌, if◌then◌else◌, set, some, get_elem?, at_set, Known, Nothing, Feeds, Drains, AddsUp, AreWithin, Fits, HasPut, HasTaken, IsDraining, IsRelayed, new_feeder, with_back, with_feeder, with_taken, taken_in, made_in, back_in, common_steps}
-use Rattle.crossbeam_queue.specs.Fifo.{Pushes, Pops, Forks, Merges, Learns}
-use Rattle.crossbeam_queue.proofs.Lists.{set_else}
-use Rattle.std.proofs.Common.{rules}
-use Rattle.std.proofs.lemmas.Bool.Decides.{nat_tests}
-use Rattle.ids_reporter.proofs.PairLemmas.{front_of, indexes-append, one_here}
+-- Pairs, feeder by feeder; each move keeps the rule; and what the ends of a relay show.
+use Rattle.ids_reporter.proofs.Names.{◌≡◌, ◌≢◌, ℕ, ◌+◌, ◌<◌, ◌≤◌, ◌⊎◌, inr, List, [], ◌∷◌, ◌++◌, length, Some, None, refl, sym, ap, ◌∙◌, append_assoc, arith, length-append, length-range_with_len, Option, indexes, upto, Taken, ◌==◌, if◌then◌else◌, set, some, get_elem?, at_set, Known, Nothing, Feeds, Drains, AddsUp, AreWithin, Fits, HasPut, HasTaken, IsDraining, IsRelayed, new_feeder, with_back, with_feeder, with_taken, taken_in, made_in, back_in, common_steps, take_at, take, get_or, take-append-drop, MatchOption, OnErr, ok_or, HasEnded, nat_tests, rules, map-id, map-range_with_len_more, take-map-range_with_len, set_else}
+use Rattle.crossbeam_queue.specs.Fifo.{Held, Pushes, Pops, Forks, Merges, Learns}
+
+pub indexes-append : (s : ℕ) (xs ys : List Taken) → indexes s (xs ++ ys) ≡ indexes s xs ++ indexes s ys
+indexes-append s xs ys = grind (arith, common_steps)
+
+-- what a feeder's pairs in turn begin with are its pairs in turn
+pub front_of : (s n : ℕ) (xs ys : List Taken) → indexes s (xs ++ ys) ≡ upto n → indexes s xs ≡ upto (length (indexes s xs))
+front_of s n xs ys e =
+    let taken = simp map-id at (take-map-range_with_len (λ x. x) 0 n (length (indexes s xs))) in
+    grind (arith, common_steps, length-range_with_len, take_at (indexes s xs) (indexes s ys), taken)
+
+-- where a feeder put its next pair, it is its last
+pub one_here : (s k : ℕ) (pairs : List Taken) (pair : Taken) → pair.source ≡ s → pair.index ≡ k → indexes s pairs ≡ upto k
+    → indexes s (pairs ++ pair ∷ []) ≡ upto (k + 1)
+one_here s k pairs pair source index e = grind (arith, common_steps, simp map-id at (map-range_with_len_more (λ x. x) 0 k k))
 
 -- ---- what the passes know
 
@@ -108,3 +118,21 @@ welcomes pass v other u s k is knows = rw knows (λ items views h at two at'.
     (λ _. (mine.0, mine.1, (λ t n ended. grind (arith, nat_tests, mine.2 t n)), λ t n x. grind (arith, mine.3 t n)))
     (λ j y _ fits away. stays _ s _ _ _ _ _ _ y (λ e. grind arith) (λ t _. refl) fits)) tt (λ j y away fits. fits away) in
     record { drain = h.drain; seat = changed s None h.seat; puts = h.puts; taken = h.taken; whole = h.whole; fit = fit })
+
+-- ---- what the ends show
+
+-- where all adds up, there is no pair too many
+pub adds_within : (v : Known) (items : List Taken) → AddsUp v items → AreWithin v
+adds_within v items up s n ended = grind (arith, indexes-append, length-append, up s n ended)
+
+-- where the queue was empty, all was taken
+pub none_left : {E : Type 0} (pair : Option Taken) (none : E) (v w : Known) (Took : Taken → Type 0)
+    → MatchOption pair ((w ≡ v) × Held 0 (AddsUp v)) Took
+    → OnErr (ok_or pair none) ((s n : ℕ) → HasEnded s n w → length (indexes s (taken_in w)) ≡ n)
+none_left (Some pair) none v w Took told = tt
+none_left None none v w Took told = rw told.0 (λ s n ended. grind (arith, common_steps, told.1.2 s n ended))
+
+-- the last of the first items of a list
+pub popped : {A : Type 0} (front all : List A) (last : A) (n : ℕ) → front ++ last ∷ [] ≡ take n all
+    → (front ≡ take (length front) all) × ((d : A) → get_or all (length front) d ≡ last)
+popped front all last n e = grind (arith, common_steps, take-append-drop n all, append_assoc)

@@ -1,7 +1,6 @@
 -- Where messages lie, and of which instance they are.
 use Rattle.std.proofs.lemmas.List.Sums.{AllPass-from_list_all}
-use Rattle.std.proofs.lemmas.Option.{gets, get_or_from_slice_get, slice_get_within}
-use Rattle.ids_reporter.proofs.Names.{◌≡◌, ◌≢◌, ℕ, ◌+◌, ◌<◌, ◌≤◌, List, [], ◌∷◌, ◌++◌, length, take, Some, sym, ap, ◌∙◌, arith, cases_lt, length-append, Ok, Bool, true, ◌==◌, drop, get_or, if◌then◌else◌, get_or-append, get_or-append_seam, eqb-true, flat_map-append, take-append-drop, take-append-le, take_all, none-some, same_Some, list_all, IfOk, option_to_list, slice_get, slice_range, MessageParts, AreBytes, Held, joined, messages_of, messages_read, read_is_held, spelling, Index, One, Mixed, IsIndexOf, IsIndexed, end_of, instance_of, spelling_at, rules, common_steps}
+use Rattle.ids_reporter.proofs.Names.{◌≡◌, ◌≢◌, ℕ, ◌+◌, ◌<◌, ◌≤◌, List, [], ◌∷◌, ◌++◌, length, take, Some, sym, ap, ◌∙◌, arith, cases_lt, length-append, Ok, Bool, true, ◌==◌, drop, get_or, if◌then◌else◌, get_or-append, get_or-append_seam, eqb-true, flat_map-append, take-append-drop, take-append-le, take_all, none-some, same_Some, list_all, IfOk, option_to_list, slice_get, slice_range, MessageParts, AreBytes, Held, joined, messages_of, messages_read, read_is_held, spelling, Index, One, Mixed, IsIndexOf, IsIndexed, end_of, instance_of, spelling_at, rules, common_steps, gets, get_or_from_slice_get, slice_get_within}
 
 -- ---- instances
 

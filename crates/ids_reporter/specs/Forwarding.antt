@@ -8,7 +8,7 @@ use Rattle.ids_reporter.specs.declared.index.Instance.TheVariants.{One}
 use Rattle.ids_reporter.specs.declared.outlet.Outlet.{Outlet}
 use Rattle.ids_reporter.specs.declared.relay.Relay.{Relay}
 use Rattle.ids_reporter.specs.declared.rule.Taken.{Taken}
-use Rattle.ids_reporter.specs.Pairs.{indexes, upto, AreInOrder}
+use Rattle.ids_reporter.specs.Rule.{indexes, upto, AreInOrder}
 use Rattle.ids_reporter.specs.Relays.{IsDrainOf, IsFeeding, taken_of, feeders_of, back_of}
 use Rattle.ids_reporter.specs.Sources.{AreSmall, Sources, count_at, instance_of, source_at}
 
@@ -45,6 +45,7 @@ pub record AreFeeding (relay : Relay) (sources : Sources) (feeders : List Feeder
   pub all : length feeders ≡ length sources
   pub each : (i : ℕ) (d : Feeder) → i < length feeders → IsFeeding relay i (count_at sources i) (slice_index_or feeders i d)
 
--- the same feeders were made, and the same are back
-abbrev pub SameFeeders : Outlet → Outlet → Type 0
-SameFeeders old new = (feeders_of new.drain ≡ feeders_of old.drain) × (back_of new.drain ≡ back_of old.drain)
+-- so it is still; and the same feeders were made, and the same are back
+abbrev pub StaysAtWork : Relay → Sources → Outlet → Outlet → Type 0
+StaysAtWork relay sources old new =
+    IsWorking relay sources new × (feeders_of new.drain ≡ feeders_of old.drain) × (back_of new.drain ≡ back_of old.drain)

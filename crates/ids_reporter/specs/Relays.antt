@@ -7,8 +7,7 @@ use Rattle.ids_reporter.specs.declared.relay.Relay.{Relay}
 use Rattle.ids_reporter.specs.declared.rule.Taken.{Taken}
 use Rattle.ids_reporter.specs.declared.rule.Known.{Known}
 use Rattle.ids_reporter.specs.declared.rule.Known.TheVariants.{Feeds, Drains}
-use Rattle.ids_reporter.specs.Pairs.{indexes, AreInOrder}
-use Rattle.ids_reporter.specs.Rule.{made_in, taken_in, back_in, IsDraining, IsBack, HasEnded, AreWithin}
+use Rattle.ids_reporter.specs.Rule.{indexes, AreInOrder, made_in, taken_in, back_in, IsDraining, IsBack, HasEnded, AreWithin}
 
 -- a feeder's number
 abbrev pub number_of : Feeder → ℕ

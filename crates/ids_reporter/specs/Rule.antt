@@ -1,11 +1,23 @@
 -- The queue's rule: what was taken and what the queue holds are, of each feeder, all the pairs that it put.
-use Rattle.std.specs.Prelude.{◌≡◌, ℕ, ◌+◌, ◌<◌, ◌≤◌, ◌⊎◌, List, [], ◌∷◌, ◌++◌, length, Option, Some, None}
+use Rattle.std.specs.Prelude.{◌≡◌, ℕ, ◌+◌, ◌<◌, ◌≤◌, ◌==◌, ◌⊎◌, List, [], ◌∷◌, ◌++◌, length, map, filter, Option, Some, None}
+use Rattle.std.specs.List.{range_with_len}
 use mathlib.Core.Option.{some}
 use lib.ListN.{get_elem?}
 use Rattle.ids_reporter.specs.declared.rule.Taken.{Taken}
 use Rattle.ids_reporter.specs.declared.rule.Known.{Known}
 use Rattle.ids_reporter.specs.declared.rule.Known.TheVariants.{Nothing, Feeds, Drains}
-use Rattle.ids_reporter.specs.Pairs.{indexes, upto, AreInOrder}
+
+-- the indexes of a feeder's pairs, in the order of the pairs
+abbrev pub indexes : ℕ → List Taken → List ℕ
+indexes s pairs = map (λ (pair : Taken). pair.index) (filter (λ (pair : Taken). pair.source == s) pairs)
+
+-- the first numbers, from 0
+abbrev pub upto : ℕ → List ℕ
+upto n = range_with_len 0 n
+
+-- each feeder's indexes are 0, 1, 2 and so on
+abbrev pub AreInOrder : List Taken → Type 0
+AreInOrder pairs = (s : ℕ) → indexes s pairs ≡ upto (length (indexes s pairs))
 
 -- how many feeders the drain made
 abbrev pub made_in : Known → ℕ

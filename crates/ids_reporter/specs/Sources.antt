@@ -1,10 +1,12 @@
 -- Sources: the messages of each manager, and of which instance they are.
-use Rattle.std.specs.Prelude.{◌≡◌, ◌≢◌, ℕ, ◌+◌, ◌-◌, ◌^◌, ◌≤◌, ◌==◌, List, [], ◌∷◌, length, take, slice_get, slice_index, slice_index_or, option_to_list, if◌then◌else◌}
+use Rattle.std.specs.Prelude.{◌≡◌, ◌≢◌, ℕ, ◌+◌, ◌-◌, ◌^◌, ◌≤◌, ◌==◌, List, [], ◌∷◌, length, take, slice_get, slice_index, slice_index_or, option_to_list, if◌then◌else◌, Result, Ok, Err}
 use Rattle.std.specs.List.{list_all}
-use Rattle.ids_frame.specs.{MessageParts, joined}
+use Rattle.ids_frame.specs.{MessageParts, Held, joined}
 use Rattle.ids_reporter.specs.declared.index.Index.{Index}
 use Rattle.ids_reporter.specs.declared.index.Instance.{Instance}
 use Rattle.ids_reporter.specs.declared.index.Instance.TheVariants.{Empty, One, Mixed}
+use Rattle.ids_reporter.specs.declared.source.SourceFault.{SourceFault}
+use Rattle.ids_reporter.specs.declared.source.SourceFault.TheVariants.{Bad, NoMemory}
 
 -- each source's messages
 abbrev pub Sources : Type 0
@@ -50,3 +52,9 @@ AreSmall sources = (s : ℕ) → count_at sources s ≤ 2 ^ 40
 pub record AreApart (sources : Sources) : Type 0 where
   pub pure : (s : ℕ) → instance_of (source_at sources s) ≢ Mixed
   pub differ : (r s i : ℕ) → instance_of (source_at sources r) ≡ One i → instance_of (source_at sources s) ≡ One i → r ≡ s
+
+-- what the bytes hold: the messages that were read, or the fault that was told
+abbrev pub IsRead : Held → Result (List MessageParts) SourceFault → Type 0
+IsRead held (Ok messages) = held ≡ Ok messages
+IsRead held (Err (Bad fault)) = held ≡ Err fault
+IsRead held (Err NoMemory) = Unit {0}

@@ -40,8 +40,7 @@ impl Drain {
         ensures taken { IfOk result (λ pair. known self.new ≡ with_taken pair (known self.old)) }
         ensures empty { OnErr result (known self.new ≡ known self.old) }
     {
-        let pair = relay.line.try_pop_as::<Takes>(&mut self.pass);
-        pair.ok_or(Empty)
+        relay.line.try_pop_as::<Takes>(&mut self.pass).ok_or(Empty)
     }
 
     /// Takes a feeder back.
@@ -69,6 +68,7 @@ impl Drain {
     }
 
     /// The feeder of the next number, which is `source`.
+    #[tactic(auto, using(crate::proofs::RuleLemmas::makes))]
     pub(crate) fn feeder(&mut self, relay: &Relay, source: u8) -> Feeder
         requires mine { IsDrainOf relay.now self.old }
         requires next { source ≡ feeders_of self.old }

@@ -2,11 +2,26 @@
 ghost use Rattle.std.specs.Prelude.{◌≡◌, ◌+◌, ◌<◌, ◌≤◌, ◌^◌, OnOk, OnErr};
 ghost use Rattle.ids_reporter.specs.Relays.{IsAt, IsFeederOf, IsFeeding, number_of, puts_of};
 
-use crate::feed_gate::FeedGate;
 use crate::presence::{Presence, TRIES, pause};
 use crate::relay::Relay;
 use crate::rule::{Knower, Puts, Taken};
 use std::sync::Wait;
+
+/// Is told before the first try of each put, in the thread that makes it, and not before a later one. A test's gate
+/// lets feeders wait for each other here.
+pub trait FeedGate {
+    /// A feeder is about to put the pair of this index.
+    /// Steps: `OpenFeed`: constant. Memory: `OpenFeed`: none. Waits: as its gate; `OpenFeed`: no. By: no body.
+    fn before(&self, feeder: u8, index: u64);
+}
+
+/// A gate that stops nobody.
+#[derive(Clone, Copy, Debug)]
+pub struct OpenFeed;
+
+impl FeedGate for OpenFeed {
+    fn before(&self, _feeder: u8, _index: u64) {}
+}
 
 /// The relay's queue was full, and nothing was put.
 #[derive(Clone, Copy, Debug, PartialEq, Eq)]
@@ -63,8 +78,7 @@ impl Feeder {
                 source: self.source,
                 index: self.puts,
             };
-            let pushed = relay.line.try_push_as::<Puts>(&mut self.pass, pair);
-            if pushed.is_ok() {
+            if relay.line.try_push_as::<Puts>(&mut self.pass, pair).is_ok() {
                 self.puts += 1;
                 return Ok(());
             }

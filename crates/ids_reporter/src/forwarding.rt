@@ -1,12 +1,11 @@
 //! Forwarding: in rounds, a feeder for each source, in a thread of its own, beside the drain.
 ghost use Rattle.std.specs.Prelude.{◌≡◌, ◌↔◌, ℕ, ◌<◌, ◌≤◌, length, slice_index_or, IfOk, IsTrue};
 ghost use Rattle.std.specs.Thread.{IsSync};
-ghost use Rattle.ids_reporter.specs.{AreFeeding, IsForwarded, IsWorking, SameFeeders, AreAt, IsFeeding, puts_of};
+ghost use Rattle.ids_reporter.specs.{AreFeeding, IsForwarded, IsWorking, StaysAtWork, AreAt, IsFeeding, puts_of};
 ghost use Rattle.ids_reporter.specs.Sources.{AreApart, AreSmall, count_at};
 
 use crate::drain::Drain;
-use crate::feed_gate::FeedGate;
-use crate::feeder::Feeder;
+use crate::feeder::{FeedGate, Feeder};
 use crate::outlet::Outlet;
 use crate::presence::Presence;
 use crate::relay::{MadeRelay, Relay, make};
@@ -75,8 +74,7 @@ fn run<R: Threads + Wait + Sync, G: FeedGate + Sync>(
     requires works { IsWorking relay.now sources.now outlet.old }
     ensures feeders { AreAt relay.now (count_at sources.now) result.items }
     ensures all { length result.items ≡ length sources.now }
-    ensures works { IsWorking relay.now sources.now outlet.new }
-    ensures same { SameFeeders outlet.old outlet.new }
+    ensures works { StaysAtWork relay.now sources.now outlet.old outlet.new }
 {
     for _ in rt.forever() {
         if have_put_all(sources, &feeders) {
@@ -112,8 +110,7 @@ fn round<R: Threads + Sync, G: FeedGate + Sync>(
     requires feeders { AreFeeding relay.now sources.now feeders.items }
     requires works { IsWorking relay.now sources.now outlet.old }
     ensures feeders { AreFeeding relay.now sources.now result.items }
-    ensures works { IsWorking relay.now sources.now outlet.new }
-    ensures same { SameFeeders outlet.old outlet.new }
+    ensures works { StaysAtWork relay.now sources.now outlet.old outlet.new }
 {
     let presence = &Presence::new(rt);
     let ends = feeders.as_mut_slice();
@@ -125,8 +122,7 @@ fn round<R: Threads + Sync, G: FeedGate + Sync>(
         { feed(rt, relay, sources, gate, ends, presence) },
         &mut || -> ()
             requires { IsWorking relay.now sources.now outlet.now }
-            ensures { IsWorking relay.entry.now sources.entry.now outlet.exit.now
-                × SameFeeders outlet.entry.now outlet.exit.now }
+            ensures { StaysAtWork relay.entry.now sources.entry.now outlet.entry.now outlet.exit.now }
         { outlet.take_some(relay, sources, presence) },
     );
     feeders

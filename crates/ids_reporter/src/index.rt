@@ -60,14 +60,6 @@ impl Index {
         self.places[i]
     }
 
-    /// Where the last message ends.
-    fn end(&self) -> usize
-        requires { 0 < length self.now.places.items }
-        ensures { result ≡ end_of self.now }
-    {
-        self.place(self.places.len() - 1)
-    }
-
     /// Adds the next message.
     pub(crate) fn add(&mut self, message: &Message<'_>) -> Result<(), NoMemory>
         requires some { 0 < length self.old.places.items }
@@ -75,7 +67,7 @@ impl Index {
         ensures { (messages : List MessageParts) → IsIndexOf self.old messages
             → OnOk result (IsIndexOf self.new (messages ++ message.now ∷ [])) }
     {
-        let end = self.end() + message.spelling_len() as usize;
+        let end = self.place(self.places.len() - 1) + message.spelling_len() as usize;
         self.places.push(end)?;
         self.instance = self.instance.with(message.instance());
         Ok(())

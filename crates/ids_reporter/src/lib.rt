@@ -9,7 +9,6 @@
 #![tactic(auto)]
 
 mod drain;
-mod feed_gate;
 mod feeder;
 mod forwarding;
 mod index;
@@ -20,8 +19,7 @@ mod rule;
 mod source;
 
 pub use drain::{Drain, Empty};
-pub use feed_gate::{FeedGate, OpenFeed};
-pub use feeder::{Feeder, Full};
+pub use feeder::{FeedGate, Feeder, Full, OpenFeed};
 pub use forwarding::{Forwarded, forward};
 pub use index::Instance;
 pub use relay::{MadeRelay, Relay, make};

@@ -1,7 +1,7 @@
 //! The drain of a run, which writes the message that each pair names as it takes it.
 ghost use Rattle.std.specs.Prelude.{◌≡◌, [], ◌∷◌, ◌++◌, List, IfOk, OnOk};
 ghost use Rattle.ids_frame.specs.Messages.{joined};
-ghost use Rattle.ids_reporter.specs.{IsWorking, SameFeeders, named, AreAllTaken};
+ghost use Rattle.ids_reporter.specs.{IsWorking, StaysAtWork, named, AreAllTaken};
 ghost use Rattle.ids_reporter.specs.Sources.{Sources};
 
 use crate::drain::{Drain, Empty};
@@ -46,8 +46,7 @@ impl Outlet {
     /// Takes pairs until all are taken, or one is given up.
     pub(crate) fn take_some(&mut self, relay: &Relay, sources: &[Source], presence: &Presence)
         requires { IsWorking relay.now sources.now self.old }
-        ensures works { IsWorking relay.now sources.now self.new }
-        ensures same { SameFeeders self.old self.new }
+        ensures works { StaysAtWork relay.now sources.now self.old self.new }
     {
         for _ in 0..self.left {
             if let Err(Empty) = self.take_next(relay, sources, presence) {
@@ -65,8 +64,7 @@ impl Outlet {
         presence: &Presence,
     ) -> Result<(), Empty>
         requires { IsWorking relay.now sources.now self.old }
-        ensures works { IsWorking relay.now sources.now self.new }
-        ensures same { SameFeeders self.old self.new }
+        ensures works { StaysAtWork relay.now sources.now self.old self.new }
     {
         for tries in 0..TRIES {
             if let Ok(pair) = self.drain.try_take(relay) {
@@ -84,8 +82,7 @@ impl Outlet {
     /// Takes all pairs of feeders that are back.
     pub(crate) fn take_rest<R: Wait>(&mut self, rt: &R, relay: &Relay, sources: &[Source])
         requires { IsWorking relay.now sources.now self.old }
-        ensures works { IsWorking relay.now sources.now self.new }
-        ensures same { SameFeeders self.old self.new }
+        ensures works { StaysAtWork relay.now sources.now self.old self.new }
         ensures all { AreAllTaken self.new.drain }
     {
         for _ in rt.forever() {
@@ -116,12 +113,8 @@ impl Outlet {
 fn message_named(sources: &[Source], pair: Taken) -> &[u8]
     ensures { result.now ≡ joined (named sources.now (pair ∷ [])) }
 {
-    let Some(source) = sources.get(usize::from(pair.source)) else {
-        return &[];
-    };
-    if pair.index < source.len() {
-        source.message(pair.index)
-    } else {
-        &[]
+    match sources.get(usize::from(pair.source)) {
+        Some(source) if pair.index < source.len() => source.message(pair.index),
+        _ => &[],
     }
 }

@@ -29,13 +29,10 @@ impl Presence {
     /// Before the round. Where the host begins a thread that does nothing, it may begin those of the feeders: so the
     /// drain is patient.
     pub(crate) fn new<R: Threads>(rt: &R) -> Presence {
-        let patience = match thread::spawn(rt, || ()) {
-            Ok(idle) => {
-                idle.join(rt);
-                PATIENCE
-            }
-            Err(_) => 0,
-        };
+        let patience = thread::spawn(rt, || ()).map_or(0, |idle| {
+            idle.join(rt);
+            PATIENCE
+        });
         Presence {
             feeders: AtomicBool::new(false),
             drain: AtomicBool::new(true),

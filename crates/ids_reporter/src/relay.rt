@@ -1,6 +1,7 @@
 //! A relay: the queue, with the ends that were made for it.
-ghost use Rattle.std.specs.Prelude.{◌≡◌, ◌≤◌, [], length, IfOk, OnOk};
-ghost use Rattle.ids_reporter.specs.{IsNewRelay, AreAt, IsDrainOf, known, Drains};
+ghost use Rattle.std.specs.Prelude.{◌≡◌, ◌≤◌, [], IfOk};
+ghost use Rattle.crossbeam_queue.specs.Passes.{ruled_capacity};
+ghost use Rattle.ids_reporter.specs.{IsNewRelay, IsDrainOf, known, Drains};
 
 use crate::drain::Drain;
 use crate::feeder::Feeder;
@@ -24,6 +25,7 @@ pub struct MadeRelay {
 
 /// A relay of 1 to 1,024 pairs, with 1 to 8 feeders. All memory that it needs is taken here.
 /// Steps: the capacity and the feeders. Memory: made once. By: read off.
+#[tactic(auto, using(crate::proofs::RuleLemmas::begins))]
 pub fn make(alloc: Global, capacity: u16, feeders: u8) -> Result<MadeRelay, NoMemory>
     requires capacity { (1 ≤ capacity) × (capacity ≤ 1024) }
     requires feeders { (1 ≤ feeders) × (feeders ≤ 8) }
@@ -49,10 +51,7 @@ fn feeders_of(
 ) -> Result<Vec<Feeder>, NoMemory>
     requires mine { IsDrainOf relay.now drain.old }
     requires new { known drain.old ≡ Drains 0 [] [] }
-    ensures mine { IsDrainOf relay.now drain.new }
-    ensures made { OnOk result (known drain.new ≡ Drains count [] []) }
-    ensures feeders { IfOk result (λ feeders. AreAt relay.now (λ i. 0) feeders.items) }
-    ensures count { IfOk result (λ feeders. length feeders.items ≡ count) }
+    ensures { IfOk result (λ feeders. IsNewRelay (ruled_capacity relay.now.line) count relay.now drain.new feeders.items) }
 {
     let mut feeders = Vec::with_capacity(alloc, usize::from(count))?;
     for source in 0..count {

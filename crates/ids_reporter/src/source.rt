@@ -2,8 +2,7 @@
 ghost use Rattle.std.specs.Prelude.{◌≡◌, ◌<◌, ◌≤◌, length, slice_range, IfOk};
 ghost use Rattle.ids_frame.specs.Messages.{joined, messages_read};
 ghost use Rattle.ids_reporter.specs.declared.source.SourceFault.TheVariants as faults;
-ghost use Rattle.ids_reporter.specs.Reading.{IsRead};
-ghost use Rattle.ids_reporter.specs.Sources.{instance_of, spelling_at};
+ghost use Rattle.ids_reporter.specs.Sources.{IsRead, instance_of, spelling_at};
 
 use crate::index::{Index, Instance};
 use ids_frame::{BadMessage, Messages};

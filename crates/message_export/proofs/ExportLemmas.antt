@@ -1,13 +1,9 @@
--- Messages are exported one by one: those in front were, and the others are left.
-use Rattle.message_export.proofs.Names.{◌≡◌, ◌+◌, ◌-◌, ◌<◌, ◌==◌, ◌∷◌, ◌++◌, ℕ, List, [], Ok, Err, arith, false, true, length, drop, refl, sym, ap, ◌∙◌, append_assoc, IsByte, AreBytes, MessageParts, IsJoined, joined, AreMessages, messages_read, spelling, CauseOf, line_feed, common_steps, append-nil, length-append, nil_from_length, Front}
+-- Messages are exported one by one: those in front were, and the others are left. And pieces of a line, one after another.
+use Rattle.message_export.proofs.Names.{◌≡◌, ◌+◌, ◌-◌, ◌<◌, ◌==◌, ◌∷◌, ◌++◌, ℕ, List, [], Ok, Err, arith, false, true, length, drop, refl, sym, ap, ◌∙◌, append_assoc, IsByte, AreBytes, MessageParts, IsJoined, joined, AreMessages, messages_read, spelling, CauseOf, line_feed, common_steps, append-nil, length-append, nil_from_length, Front, codes, join_with_byte, flat_map-append, no_time, packet, packets, time_after, Time, json_line, json_lines, comma, continued, object, read_of, capture_front}
 use Rattle.std.proofs.lemmas.List.Elements.{All-drop}
 use Rattle.ids_frame.specs.declared.fault.FrameFault.{FrameFault}
-use Rattle.ids_frame.proofs.MessageLemmas.{read_of}
 use Rattle.ids_frame.proofs.MessagesLemmas.{IsLeft, read_is_held, stops}
-use Rattle.message_export.specs.Capture.{capture_front, no_time, packet, packets, time_after}
 use Rattle.message_export.specs.Exported.{exported, front_of, piece}
-use Rattle.message_export.specs.JsonLines.{json_line, json_lines}
-use Rattle.message_export.specs.declared.capture.Time.{Time}
 use Rattle.message_export.specs.declared.exporting.Format.{Format}
 use Rattle.message_export.specs.declared.exporting.Format.TheVariants.{Json, Pcap}
 
@@ -96,3 +92,27 @@ pub putting_stops : (format : Format) (bytes rest out : List ℕ) (time : Time) 
 putting_stops format bytes rest out time fault are so some cause =
     let left : IsLeft bytes rest = record { front = so.front; fit = so.stands.fit; whole = so.stands.whole; are_bytes = so.stands.are_bytes } in
     stops bytes rest fault left some (read_of rest (Err fault) so.stands.are_bytes cause)
+
+-- ---- pieces of a line that are put one after another
+
+-- five pieces
+pub five_put : (out a b c d e : List ℕ) → ((((out ++ a) ++ b) ++ c) ++ d) ++ e ≡ out ++ (a ++ (b ++ (c ++ (d ++ (e ++ [])))))
+five_put out a b c d e = simp (append_assoc, append-nil)
+
+-- the first member, and those after it
+joined_continued : (first : List ℕ) (rest : List (List ℕ)) → join_with_byte comma (first ∷ rest) ≡ first ++ continued rest
+joined_continued first [] = sym (append-nil first)
+joined_continued first (next ∷ rest) = grind (arith, common_steps, joined_continued next rest)
+
+-- the line of an object, put member by member
+seven_put : (out a b c d e f g : List ℕ)
+    → ((((((out ++ a) ++ b) ++ c) ++ d) ++ e) ++ f) ++ g ≡ out ++ ((((((a ++ b) ++ c) ++ d) ++ e) ++ f) ++ g)
+seven_put out a b c d e f g = simp append_assoc
+
+pub object_put : (out first : List ℕ) (a b c d e : List (List ℕ))
+    → ((((((out ++ 123 ∷ first) ++ continued a) ++ continued b) ++ continued c) ++ continued d) ++ continued e) ++ 125 ∷ 10 ∷ []
+    ≡ out ++ (object (first ∷ (a ++ (b ++ (c ++ (d ++ e))))) ++ line_feed ∷ [])
+object_put out first a b c d e =
+    seven_put out (123 ∷ first) (continued a) (continued b) (continued c) (continued d) (continued e) (125 ∷ 10 ∷ []) ∙ ap (λ l. out ++ l)
+    (sym (ap (λ l. (codes "{" ++ l ++ codes "}") ++ line_feed ∷ []) (joined_continued first (a ++ (b ++ (c ++ (d ++ e)))))
+    ∙ simp (flat_map-append, append_assoc)))

@@ -1,5 +1,3 @@
-pub mod CaptureLaws
 pub mod ExportLemmas
-pub mod JsonLemmas
-pub mod LineLaws
+pub mod ReaderLaws
 pub mod Names

@@ -1,13 +1,24 @@
 -- Messages as a capture, a packet for each.
 -- Source: the classic capture format that pcap readers take, with the high byte first and nanoseconds
 -- (docs/FORMATS.md).
-use Rattle.std.specs.Prelude.{◌++◌, ◌∷◌, if◌then◌else◌}
+use Rattle.std.specs.Prelude.{◌++◌, ◌∷◌, if◌then◌else◌, ◌/◌, ◌%◌, ◌^◌}
 use Rattle.text_spec.specs.Below.{ℕ, List, [], length, min, nat_lt, take, Option, Some, None, to_be_bytes}
 use Rattle.std.specs.Int.{w16, w32}
 use Rattle.ids_types.specs.declared.names.Stamp.{Stamp}
 use Rattle.ids_frame.specs.{MessageParts, spelling}
-use Rattle.message_export.specs.Moments.{seconds_of, nanoseconds_of}
 use Rattle.message_export.specs.declared.capture.Time.{Time}
+
+-- The parts of a timestamp: from the top a bit of source, a reserved bit, 30 bits of nanoseconds and 32
+-- bits of seconds.
+-- Source: the timestamp of the AUTOSAR PRS Intrusion Detection System.
+
+-- the seconds
+abbrev pub seconds_of : Stamp → ℕ
+seconds_of stamp = stamp.0 % 2 ^ 32
+
+-- the nanoseconds, of which 30 bits can say more than a second
+abbrev pub nanoseconds_of : Stamp → ℕ
+nanoseconds_of stamp = stamp.0 / 2 ^ 32 % 2 ^ 30
 
 -- how many bytes a packet has at most: readers refuse more
 abbrev pub most_bytes : ℕ

@@ -7,7 +7,7 @@ use Rattle.ids_frame.specs.declared.context.Form.{Form}
 use Rattle.ids_frame.specs.declared.context.Form.TheVariants.{Short, Long}
 use Rattle.ids_frame.specs.{ContextPart, MessageParts, spelling}
 use Rattle.text_spec.specs.Words.{line_feed}
-use Rattle.message_export.specs.Moments.{seconds_of, nanoseconds_of}
+use Rattle.message_export.specs.Capture.{seconds_of, nanoseconds_of}
 
 -- ---- JSON
 

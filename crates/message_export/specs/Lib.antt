@@ -1,4 +1,3 @@
 pub mod Capture
 pub mod Exported
 pub mod JsonLines
-pub mod Moments

@@ -3,8 +3,7 @@
 ghost use Rattle.std.specs.Prelude.{◌≡◌, ◌<◌, ◌^◌, ◌++◌, OnOk, length};
 ghost use Rattle.message_export.specs.Capture.{packet, time_after};
 
-use crate::bytes::{append, append_number};
-use crate::moment::{nanoseconds, seconds};
+use crate::pieces::{append, append_number, nanoseconds, seconds};
 use ids_types::{NoMemory, Stamp};
 
 /// The front of each capture.

@@ -3,14 +3,31 @@
 ghost use Rattle.std.specs.Prelude.{◌≡◌, ◌⊎◌, ◌++◌, List, Ok, Err, IfOk, IfErr, OnOk};
 ghost use Rattle.ids_frame.specs.{FitsMessage, MessageParts, messages_read, spelling};
 ghost use Rattle.message_export.specs.Exported.{exported, front_of, piece};
+ghost use Rattle.message_export.specs.declared.exporting.ExportFault.TheVariants as faults;
 
-use crate::bytes::append;
 use crate::capture::{FRONT, NO_TIME, Time, push_packet, time_after};
-use crate::fault::ExportFault;
 use crate::json::push_line;
+use crate::pieces::append;
 use ids_frame::{BadMessage, Message, decode};
 use ids_types::NoMemory;
 use std::alloc::Global;
+
+/// Why messages are not exported.
+#[derive(Clone, Copy, Debug, PartialEq, Eq)]
+pub enum ExportFault {
+    /// A message cannot be read.
+    Bad(BadMessage),
+    /// The allocator had no room.
+    NoMemory,
+}
+
+impl From<NoMemory> for ExportFault {
+    ghost from_gives = { λ _ fault. fault ≡ faults.NoMemory };
+
+    fn from(_: NoMemory) -> Self {
+        ExportFault::NoMemory
+    }
+}
 
 /// What messages are exported as.
 #[derive(Clone, Copy, Debug, PartialEq, Eq)]

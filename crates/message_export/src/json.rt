@@ -4,8 +4,7 @@ ghost use Rattle.std.specs.Prelude.{◌≡◌, ◌++◌, ◌∷◌, [], OnOk, co
 ghost use Rattle.text_spec.specs.Words.{line_feed};
 ghost use Rattle.message_export.specs.JsonLines.{byte_members, context_members, continued, event_members, form_word, hexadecimal, json_line, member, quoted, signature_members, stamp_members};
 
-use crate::bytes::append;
-use crate::moment::{nanoseconds, seconds};
+use crate::pieces::{append, nanoseconds, seconds};
 use ids_frame::{Context, Form, Message};
 use ids_types::{NoMemory, Stamp};
 use text_spec::{push_hex, push_number};

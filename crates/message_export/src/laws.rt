@@ -7,7 +7,7 @@ ghost use Rattle.message_export.specs.Capture.{exported_pcap, told_of};
 ghost use Rattle.message_export.specs.JsonLines.{json_line};
 
 /// A line tells one message, and where it stands.
-#[tactic(auto, using(crate::proofs::LineLaws::line_lem))]
+#[tactic(auto, using(crate::proofs::ReaderLaws::line_lem))]
 pub fn a_line_tells_one_message()
     ensures { (at place : ℕ) (m n : MessageParts) → at < 2 ^ 64 → place < 2 ^ 64 → FitsMessage m → FitsMessage n
         → json_line at m ≡ json_line place n → (at ≡ place) × (m ≡ n) }
@@ -15,7 +15,7 @@ pub fn a_line_tells_one_message()
 
 /// A capture tells of each message how many bytes it has, and the first 262,144 of them. So it tells messages that
 /// have no more.
-#[tactic(auto, using(crate::proofs::CaptureLaws::told_lem, crate::proofs::CaptureLaws::short_lem))]
+#[tactic(auto, using(crate::proofs::ReaderLaws::told_lem, crate::proofs::ReaderLaws::short_lem))]
 pub fn a_capture_tells_its_messages()
     ensures told { (messages others : List MessageParts) → AreMessages messages → AreMessages others
         → exported_pcap messages ≡ exported_pcap others → map told_of messages ≡ map told_of others }

@@ -7,14 +7,11 @@
 //! No clause says that memory suffices: an answer `NoMemory` is always true.
 #![tactic(auto)]
 
-mod bytes;
 mod capture;
 mod exporting;
-mod fault;
 mod json;
 mod laws;
-mod moment;
+mod pieces;
 
-pub use exporting::{Format, export};
-pub use fault::ExportFault;
+pub use exporting::{ExportFault, Format, export};
 pub use laws::{a_capture_tells_its_messages, a_line_tells_one_message};

@@ -1,5 +1,4 @@
-use Rattle.frame_auth.proofs.Names.{◌≡◌, ◌++◌, take, drop}
-use Rattle.frame_auth.specs.Tags.{masked}
+use Rattle.frame_auth.proofs.Names.{◌≡◌, ◌++◌, take, drop, masked}
 use Rattle.frame_auth.proofs.key.taken_in.Given as goal
 
 -- the bytes so far are combined with the mask

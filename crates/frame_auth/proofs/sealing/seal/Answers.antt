@@ -1,5 +1,5 @@
 use Rattle.frame_auth.proofs.Names.{sym, ◌∙◌, StopsSeal, err_from_is_err_and}
-use Rattle.frame_auth.proofs.WalkLemmas.{goes_on, writes_plain, writes_sealed, stops_here}
+use Rattle.frame_auth.proofs.LayoutLemmas.{goes_on, writes_plain, writes_sealed, stops_here}
 use Rattle.frame_auth.proofs.sealing.seal.Goals as goal
 
 pub loop-rest-preserved : goal.loop-rest-preserved

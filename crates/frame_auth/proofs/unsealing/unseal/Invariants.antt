@@ -1,5 +1,5 @@
 use Rattle.frame_auth.proofs.Names.{length, joined, joined_sealed}
-use Rattle.frame_auth.proofs.WalkLemmas.{Goes}
+use Rattle.frame_auth.proofs.LayoutLemmas.{Goes}
 use Rattle.frame_auth.proofs.unsealing.unseal.Given as goal
 
 abbrev pub invariant-loop-rest : goal.invariant-loop-rest

@@ -1,6 +1,5 @@
 use Rattle.frame_auth.proofs.Names.{◌≡◌, ◌++◌, Some, refl, sym, ap, ◌∙◌, arith, inr, seal_of, common_steps}
-use Rattle.frame_auth.proofs.WalkLemmas.{begins_so}
-use Rattle.frame_auth.proofs.LayoutLemmas.{no_seal, no_counter, sealed_with, other_counter, added_bare, moved}
+use Rattle.frame_auth.proofs.LayoutLemmas.{begins_so, no_seal, no_counter, sealed_with, other_counter, added_bare, moved}
 use Rattle.frame_auth.proofs.unsealing.unseal_first.Goals as goal
 
 pub returns-in_default-clause-place : goal.returns-in_default-clause-place

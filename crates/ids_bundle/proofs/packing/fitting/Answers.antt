@@ -1,6 +1,5 @@
-use Rattle.ids_bundle.proofs.Names.{refl}
+use Rattle.ids_bundle.proofs.Names.{refl, are_bytes, decode_tells}
 use Rattle.ids_bundle.proofs.UnitLemmas.{long}
-use Rattle.ids_frame.proofs.DecodeLemmas.{are_bytes, decode_tells}
 use Rattle.ids_bundle.proofs.packing.fitting.Goals as goal
 
 pub returns-in-Ok-clause-begins : goal.returns-in-Ok-clause-begins

@@ -1,11 +1,10 @@
-use Rattle.ids_bundle.proofs.Names.{sym, ◌∙◌, arith, rules, common_steps}
-use Rattle.std.proofs.lemmas.Bool.{eqb-false}
+use Rattle.ids_bundle.proofs.Names.{[], sym, ◌∙◌, arith, rules, common_steps, eqb-false}
 use Rattle.ids_bundle.proofs.UnitLemmas.{few_messages}
-use Rattle.ids_bundle.proofs.PackLemmas.{packing_first, packing_keeps, packing_closes, packing_ends}
+use Rattle.ids_bundle.proofs.PackLemmas.{packing_keeps, packing_closes, packing_ends}
 use Rattle.ids_bundle.proofs.packing.pack.Goals as goal
 
 pub loop-load-init : goal.loop-load-init
-loop-load-init c = packing_first _ _ _ c.in_ok-out.ensures.items
+loop-load-init c = record { front = []; rest = c.args.messages.now; run = []; stands = grind (arith, common_steps) }
 
 pub overflow_add-number : goal.overflow_add-number
 overflow_add-number c = grind (arith, common_steps, few_messages)

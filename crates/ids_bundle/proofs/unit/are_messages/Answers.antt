@@ -1,7 +1,4 @@
-use Rattle.ids_bundle.proofs.Names.{arith, take_rest, ◌+◌, ◌-◌}
-use Rattle.std.proofs.lemmas.List.Elements.{All-drop}
-use Rattle.ids_frame.specs.Bytes.{IsByte}
-use Rattle.ids_frame.proofs.DecodeLemmas.{decode_tells}
+use Rattle.ids_bundle.proofs.Names.{arith, take_rest, ◌+◌, ◌-◌, decode_tells, All-drop, IsByte}
 use Rattle.ids_bundle.proofs.UnitLemmas.{one_fewer, none_more}
 use Rattle.ids_bundle.proofs.unit.are_messages.Goals as goal
 

@@ -1,6 +1,5 @@
 use Rattle.ids_bundle.proofs.UnitLemmas.{unit_known}
-use Rattle.ids_frame.proofs.DecodeLemmas.{are_bytes}
-use Rattle.std.proofs.lemmas.List.{take_rest}
+use Rattle.ids_bundle.proofs.Names.{are_bytes, take_rest}
 use Rattle.ids_bundle.proofs.unit.is_unit.Goals as goal
 
 pub returns-clause-unit : goal.returns-clause-unit

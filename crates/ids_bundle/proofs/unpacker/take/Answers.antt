@@ -1,5 +1,5 @@
 use Rattle.ids_bundle.proofs.Names.{arith, common_steps}
-use Rattle.ids_bundle.proofs.StreamLemmas.{is_seen}
+use Rattle.ids_bundle.proofs.UnpackLemmas.{is_seen}
 use Rattle.ids_bundle.proofs.unpacker.take.Goals as goal
 
 pub returns-then-is_unit-clause-takes : goal.returns-then-is_unit-clause-takes

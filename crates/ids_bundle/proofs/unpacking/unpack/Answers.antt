@@ -1,5 +1,4 @@
-use Rattle.ids_bundle.proofs.Names.{arith, common_steps}
-use Rattle.std.proofs.lemmas.Bool.{eqb-false, false≢true}
+use Rattle.ids_bundle.proofs.Names.{arith, common_steps, eqb-false, false≢true}
 use Rattle.ids_bundle.proofs.UnitLemmas.{bad_unless_unit}
 use Rattle.ids_bundle.proofs.UnpackLemmas.{unpacking_more, unpacking_stops}
 use Rattle.ids_bundle.proofs.unpacking.unpack.Goals as goal

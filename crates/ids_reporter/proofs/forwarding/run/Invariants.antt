@@ -1,9 +1,8 @@
-use Rattle.ids_reporter.proofs.Names.{AreFeeding, IsWorking, SameFeeders}
+use Rattle.ids_reporter.proofs.Names.{AreFeeding, StaysAtWork}
 use Rattle.ids_reporter.proofs.forwarding.run.Given as goal
 
 abbrev pub invariant-loop : goal.invariant-loop
 invariant-loop g l = record {
   feeders : AreFeeding l.relay l.sources l.feeders.items;
-  works : IsWorking l.relay l.sources l.outlet;
-  same : SameFeeders l.initial.outlet l.outlet;
+  works : StaysAtWork l.relay l.sources l.initial.outlet l.outlet;
 }

@@ -1,7 +1,5 @@
-use Rattle.message_export.proofs.Names.{◌≡◌, ◌++◌, ℕ, List, arith, length, min, take, w32, to_be_bytes, IfOk-equal, append-nil, common_steps}
-use Rattle.message_export.specs.Capture.{packet}
-use Rattle.message_export.specs.declared.capture.Time.{Time}
-use Rattle.message_export.proofs.JsonLemmas.{five_put}
+use Rattle.message_export.proofs.Names.{◌≡◌, ◌++◌, ℕ, List, arith, length, min, take, w32, to_be_bytes, IfOk-equal, append-nil, common_steps, packet, Time}
+use Rattle.message_export.proofs.ExportLemmas.{five_put}
 use Rattle.message_export.proofs.capture.push_packet.Goals as goal
 
 cut : (n : ℕ) (bytes : List ℕ) → take (min (length bytes) n) bytes ≡ take n bytes

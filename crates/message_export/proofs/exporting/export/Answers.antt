@@ -1,5 +1,4 @@
-use Rattle.message_export.proofs.Names.{Ok, Err, inr, refl, sym, ap, ◌∙◌, are_bytes, decode_tells}
-use Rattle.message_export.specs.Capture.{time_after}
+use Rattle.message_export.proofs.Names.{Ok, Err, inr, refl, sym, ap, ◌∙◌, are_bytes, decode_tells, time_after}
 use Rattle.message_export.proofs.ExportLemmas.{all_put, fewer_left, more_put, none_put, putting_stops}
 use Rattle.message_export.proofs.exporting.export.Goals as goal
 
@@ -16,9 +15,8 @@ push_piece-requires c =
 
 pub loop-rest-preserved : goal.loop-rest-preserved
 loop-rest-preserved c =
-    let so = c.loop-rest.invariant in
-    let front = decode_tells _ (Ok (c.in-Ok.message, c.in-Ok.size)) so.stands.are_bytes c.in-Ok.ensures in
-    more_put _ _ _ _ _ _ _ _ c.in-Ok.message c.in-Ok.size so front c.split_at.ensures.back
+    let front = decode_tells _ (Ok (c.in-Ok.message, c.in-Ok.size)) c.loop-rest.invariant.stands.are_bytes c.in-Ok.ensures in
+    more_put _ _ _ _ _ _ _ _ c.in-Ok.message c.in-Ok.size c.loop-rest.invariant front c.split_at.ensures.back
     (c.time_after-time.ensures ∙ ap (time_after c.loop-rest.time) c.stamp.ensures) c.in_ok-push_piece-in-Ok.ensures
 
 pub loop-rest-smaller : goal.loop-rest-smaller

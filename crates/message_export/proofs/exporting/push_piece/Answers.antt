@@ -1,6 +1,5 @@
-use Rattle.message_export.proofs.Names.{◌++◌, ap, IfOk-equal}
-use Rattle.message_export.specs.Capture.{packet}
-use Rattle.message_export.proofs.CaptureLaws.{fits_32}
+use Rattle.message_export.proofs.Names.{◌++◌, ap, IfOk-equal, packet}
+use Rattle.message_export.proofs.ReaderLaws.{fits_32}
 use Rattle.message_export.proofs.exporting.push_piece.Goals as goal
 
 pub push_packet-requires : goal.push_packet-requires

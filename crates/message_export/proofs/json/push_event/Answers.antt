@@ -1,6 +1,5 @@
-use Rattle.message_export.proofs.Names.{◌∷◌, IfOk-equal, codes}
-use Rattle.message_export.specs.JsonLines.{comma, number}
-use Rattle.message_export.proofs.JsonLemmas.{five_put}
+use Rattle.message_export.proofs.Names.{◌∷◌, IfOk-equal, codes, comma, number}
+use Rattle.message_export.proofs.ExportLemmas.{five_put}
 use Rattle.message_export.proofs.json.push_event.Goals as goal
 
 pub returns : goal.returns

@@ -1,6 +1,5 @@
-use Rattle.message_export.proofs.Names.{IfOk-equal, codes}
-use Rattle.message_export.specs.JsonLines.{byte_members, context_members, event_members, number, signature_members, stamp_members}
-use Rattle.message_export.proofs.JsonLemmas.{object_put}
+use Rattle.message_export.proofs.Names.{IfOk-equal, codes, byte_members, context_members, event_members, number, signature_members, stamp_members}
+use Rattle.message_export.proofs.ExportLemmas.{object_put}
 use Rattle.message_export.proofs.json.push_line.Goals as goal
 
 pub returns : goal.returns

@@ -1,14 +1,10 @@
-use Rattle.message_export.proofs.Names.{◌++◌, Some, append_assoc, IfOk-equal, append-nil, codes, decimal}
-use Rattle.message_export.specs.JsonLines.{continued, stamp_members}
-use Rattle.message_export.proofs.JsonLemmas.{lead}
+use Rattle.message_export.proofs.Names.{◌++◌, Some, IfOk-equal, continued, stamp_members, append_assoc, append-nil}
 use Rattle.message_export.proofs.json.push_stamp.Goals as goal
 
 pub returns-in_ok-push_numbered-in-Some : goal.returns-in_ok-push_numbered-in-Some
 returns-in_ok-push_numbered-in-Some c =
-    let mid = c.push_numbered.new.out.items in
-    let piece = lead (codes "nanoseconds") ++ decimal c.from-in-Some.result in
     let whole = c.args.out.now.items ++ continued (stamp_members (Some c.in-Some.stamp)) in
-    rw c.in-Some.is (IfOk-equal c.push_numbered-in-Some.result c.push_numbered-in-Some.new.out.items (mid ++ piece) whole c.push_numbered-in-Some.ensures (simp (
+    rw c.in-Some.is (IfOk-equal _ _ _ whole c.push_numbered-in-Some.ensures (simp (
       c.in_ok-push_numbered-in-Some.ensures,
       c.in_ok-push_digits-in-Some.ensures,
       c.to_be_bytes.ensures,

@@ -1,6 +1,5 @@
 use Rattle.ids_reporter.proofs.Names.{common_steps, arith}
-use Rattle.ids_reporter.proofs.RuleLemmas.{looks, takes}
-use Rattle.ids_reporter.proofs.ViewLemmas.{none_left}
+use Rattle.ids_reporter.proofs.RuleLemmas.{looks, none_left, takes}
 use Rattle.ids_reporter.proofs.drain.Drain.take.Goals as goal
 
 pub pop_as-pair-requires-clause-rule : goal.pop_as-pair-requires-clause-rule

@@ -1,6 +1,5 @@
 use Rattle.ids_reporter.proofs.Names.{sym, subst, arith, view, IsDraining, common_steps}
-use Rattle.ids_reporter.proofs.RuleLemmas.{looks, welcomes}
-use Rattle.ids_reporter.proofs.ViewLemmas.{adds_within}
+use Rattle.ids_reporter.proofs.RuleLemmas.{adds_within, looks, welcomes}
 use Rattle.ids_reporter.proofs.drain.Drain.welcome.Goals as goal
 
 pub absorb-requires-clause-rule : goal.absorb-requires-clause-rule

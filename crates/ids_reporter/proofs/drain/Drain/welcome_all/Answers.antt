@@ -1,5 +1,5 @@
 use Rattle.ids_reporter.proofs.Names.{◌<◌, ◌≤◌, ℕ, sym, ap, ◌∙◌, arith, length, get_or, IsBackIn, made_in, taken_in, Feeder, common_steps}
-use Rattle.ids_reporter.proofs.ViewLemmas.{popped}
+use Rattle.ids_reporter.proofs.RuleLemmas.{popped}
 use Rattle.ids_reporter.proofs.drain.Drain.welcome_all.Goals as goal
 
 pub loop-feeder-preserved : goal.loop-feeder-preserved

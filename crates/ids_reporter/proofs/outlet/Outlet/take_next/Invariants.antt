@@ -1,5 +1,5 @@
-use Rattle.ids_reporter.proofs.Names.{IsWorking, SameFeeders}
+use Rattle.ids_reporter.proofs.Names.{StaysAtWork}
 use Rattle.ids_reporter.proofs.outlet.Outlet.take_next.Given as goal
 
 abbrev pub invariant-loop-tries : goal.invariant-loop-tries
-invariant-loop-tries l = IsWorking l.relay l.sources l.self × SameFeeders l.initial.self l.self
+invariant-loop-tries l = StaysAtWork l.relay l.sources l.initial.self l.self

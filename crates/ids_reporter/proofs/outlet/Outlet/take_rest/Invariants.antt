@@ -1,5 +1,5 @@
-use Rattle.ids_reporter.proofs.Names.{IsWorking, SameFeeders}
+use Rattle.ids_reporter.proofs.Names.{StaysAtWork}
 use Rattle.ids_reporter.proofs.outlet.Outlet.take_rest.Given as goal
 
 abbrev pub invariant-loop : goal.invariant-loop
-invariant-loop g l = IsWorking l.relay l.sources l.self × SameFeeders l.initial.self l.self
+invariant-loop g l = StaysAtWork l.relay l.sources l.initial.self l.self

@@ -1,6 +1,6 @@
 use Rattle.ids_bundle.proofs.Names.{refl, arith}
-use Rattle.ids_bundle.proofs.CountLemmas.{one_counted}
-use Rattle.ids_bundle.proofs.counting.count.Goals as goal
+use Rattle.ids_bundle.proofs.UnpackLemmas.{one_counted}
+use Rattle.ids_bundle.proofs.unpacking.count.Goals as goal
 
 pub loop-messages-preserved : goal.loop-messages-preserved
 loop-messages-preserved c = record {

@@ -1,8 +1,6 @@
-use Rattle.frame_auth.proofs.Names.{refl, sym, ◌∙◌}
+use Rattle.frame_auth.proofs.Names.{refl, sym, ◌∙◌, arith, common_steps}
 use Rattle.ids_frame.proofs.DecodeLemmas.{are_bytes, decode_tells}
-use Rattle.frame_auth.proofs.reading.first_message.Goals as goal
-use Rattle.std.proofs.Common.{arith}
-use Rattle.std.proofs.lemmas.Grind.{common_steps}
+use Rattle.frame_auth.proofs.sealing.first_message.Goals as goal
 
 pub split_at-requires : goal.split_at-requires
 split_at-requires c = (decode_tells c.args.bytes.now _ (are_bytes _ c.type_inv.bytes) (sym c.in-Ok.is ∙ c.decode.ensures)).few

@@ -1,6 +1,6 @@
 use Rattle.ids_bundle.proofs.Names.{◌≡◌, ◌+◌, ◌≤◌, List, length, AllByRecursion, Run, units, FitsUnit}
-use Rattle.ids_bundle.proofs.CountLemmas.{AreLeft}
-use Rattle.ids_bundle.proofs.counting.count.Given as goal
+use Rattle.ids_bundle.proofs.UnpackLemmas.{AreLeft}
+use Rattle.ids_bundle.proofs.unpacking.count.Given as goal
 
 abbrev pub invariant-loop-messages : goal.invariant-loop-messages
 invariant-loop-messages l = record {
