@@ -1,5 +1,5 @@
 -- How work on a disk ends: what it leaves there, and why it ends.
-use Rattle.cmd_disk.proofs.Names.{BeginFault, Err, FailedAfter, HasDiskCause, HasSaveCause, IsSettled, IsTrue, Keeping, KeepsBehind, KeepsRows, KeepsSome, Kept, KeptAtEnd, KeptIs, LeavesAs, LeavesBehind, LeavesOnly, LeavesSince, List, MayBeLeft, Ok, OnDisk, Parts, Result, Row, Shown, State, Stop, Turn, WornAfter, [], bytes_of, goes_on_with, inl, kept_slot, not_begun, only_contents, settled_leaves, weaker, ℕ, ⊤, ◌≡◌, arith}
+use Rattle.cmd_disk.proofs.Names.{BeginFault, Err, FailedAfter, HasDiskCause, HasSaveCause, IsSettled, IsTrue, Keeping, KeepsBehind, KeepsRows, KeepsSome, Kept, KeptAtEnd, KeptIs, LeavesAs, LeavesBehind, LeavesOnly, LeavesSince, List, MayBeLeft, Ok, OnDisk, Parts, Result, Row, Shown, State, Stop, Turn, WornAfter, [], bytes_of, goes_on_with, inl, kept_slot, not_begun, only_contents, settled_leaves, weaker, ℕ, ⊤, ◌≡◌, arith, Bor, Command, EndsAs, Global, Heard, RanSo, Shelved, Tells, TellsEnd, Vec, ended_so, inr, plain_end, plain_stop, refl}
 use Rattle.memory_store.specs.Answers.{begun_disk}
 use Rattle.memory_store.specs.Stores.{StoreValue}
 use Rattle.cmd_disk.proofs.SavingLemmas.{none_saved, some_saved}
@@ -65,3 +65,14 @@ module _ {D : Type 0} (shows : D → Shown) (old : D) (store : StoreValue D) (le
   save_cause (Err (OnDisk (FailedAfter saves))) cause = rw (← faults) cause
   save_cause (Err (OnDisk (WornAfter saves))) cause = λ tells. record { kept = record { sequence = store.sequence; rows = (kept tells).0; keeps = (kept tells).1 }; last = cause }
   save_cause (Err reason) cause = absurd cause
+
+-- ---- how that is told
+
+-- a command that ended so answers it, or that memory was wanted to tell why
+pub told_end : (command : Command) (status : ℕ) (old new : Shelved) (before after : Heard) (end : Result (Vec ℕ Global) (Stop (Bor (List ℕ))))
+    → EndsAs command (plain_end end) old new → Tells (plain_end end) status before after
+    → RanSo command status old new before after (TellsEnd (plain_end end))
+told_end command status old new before after (Ok said) ends tells =
+    record { ran = record { answer = Ok said.items; ends = ends; puts = tells }; holds = refl }
+told_end command status old new before after (Err reason) ends tells =
+    ended_so command status old new before after (TellsEnd (Err (plain_stop reason))) (inr refl) (Err reason) ends tells (inl refl)

@@ -2,5 +2,4 @@ pub mod CompletenessLemmas
 pub mod EndLemmas
 pub mod KeepLemmas
 pub mod Names
-pub mod RunLemmas
 pub mod SavingLemmas

@@ -2,7 +2,7 @@
 
 ghost use Rattle.std.specs.Prelude.{◌≡◌};
 ghost use Rattle.cmd_steps.specs.Words.{EndsAs, IfErr, IfOk, IsFoldable, IsTrue, keep_command, keep_files_of, plain_end};
-ghost use Rattle.cmd_disk.specs.Keeping.{HasDiskCause, IsNewFolding, LeavesBehind, StopsKeeping};
+ghost use Rattle.cmd_disk.specs.Keeping.{HasDiskCause, LeavesBehind, StopsKeeping};
 ghost use Rattle.cmd_disk.specs.Runs.{LeavesRecorded};
 ghost use Rattle.cmd_spec.specs.Keeping.{saved_text};
 
@@ -41,7 +41,7 @@ pub(crate) fn keep<'a, H: Shelf, D: Disk>(
     let Ok(line) = saved_line(alloc, history.turns()) else {
         return ended_with(Err(Stop::NoMemory), disk);
     };
-    let Ended { end, disk } = keep_history(alloc, &inputs.config, history, disk);
+    let Ended { end, disk } = save_history(alloc, &inputs.config, history, disk);
     match end {
         Ok(()) => ended_with(Ok(line), disk),
         Err(stop) => ended_with(Err(stop), disk),
@@ -49,7 +49,7 @@ pub(crate) fn keep<'a, H: Shelf, D: Disk>(
 }
 
 /// Saves the event memory after each turn of a history. All memory is taken before the first call of the disk.
-fn keep_history<'a, D: Disk>(
+fn save_history<'a, D: Disk>(
     alloc: Global,
     config: &Config,
     history: &History,
@@ -68,26 +68,9 @@ fn keep_history<'a, D: Disk>(
     let Ok(chain) = EventChain::make(alloc, config) else {
         return ended_with(Err(Stop::NoMemory), disk);
     };
-    save_history(alloc, config, history, &mut Folding { desk, chain }, disk)
-}
-
-/// Begins the store, and saves the event memory after each turn of a history.
-fn save_history<'h, 'a, D: Disk>(
-    alloc: Global,
-    config: &Config,
-    history: &'h History,
-    folding: &mut Folding<'h>,
-    disk: D,
-) -> Ended<'a, (), D>
-    requires new { IsNewFolding config.now folding.old }
-    requires foldable { IsFoldable config.now history.now.turns }
-    ensures stops { IfErr result.end StopsKeeping }
-    ensures cause { HasDiskCause D.shows disk result.disk result.end }
-    ensures leaves { IsTrue (D.shows disk).tells →
-        LeavesBehind config.now history.now.turns (D.shows disk) (D.shows result.disk) result.end }
-{
+    let mut folding = Folding { desk, chain };
     match Store::begin(alloc, disk) {
-        Ok((store, _)) => save_turns(config, history, folding, store),
+        Ok((store, _)) => save_turns(config, history, &mut folding, store),
         Err(fault) => not_begun(fault, DiskStop::FailedAfter { saves: 0 }),
     }
 }

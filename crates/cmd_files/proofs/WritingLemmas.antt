@@ -1,6 +1,5 @@
 -- A file that is written piece by piece.
-use Rattle.cmd_files.proofs.Names.{Adds, Append, AppendMakes, AreUntouched, CanWrite, Changes, Create, CreateMakes, Cuts, Err, Files, IsErrAnd, IsNoneOf, IsTrue, List, Ok, Output, Result, SameBut, SameFiles, Shelved, Some, StandUpTo, WriteCause, WriteFails, WriteFault, Writes, [], arith, drop, length, length-take, map, names_of, output_of, subst, take, take-take, ℕ, ⊤, ◌++◌, ◌+◌, ◌-◌, ◌∷◌, ◌≡◌, ◌≤◌}
-use Rattle.std.proofs.Math.Path.{fun_ext}
+use Rattle.cmd_files.proofs.Names.{Adds, Append, AppendMakes, AreUntouched, CanWrite, Changes, Create, CreateMakes, Cuts, Err, Files, IsErrAnd, IsNoneOf, IsTrue, List, Ok, Output, Result, SameBut, Shelved, Some, StandUpTo, WriteCause, WriteFails, WriteFault, Writes, [], arith, drop, length, length-take, map, names_of, output_of, take, take-take, ℕ, ⊤, ◌++◌, ◌+◌, ◌-◌, ◌∷◌, ◌≡◌, ◌≤◌}
 use Rattle.std.proofs.Math.Seq.{take-add, take-length}
 use Rattle.cmd_files.specs.declared.outputs.NewFile.{NewFile}
 use Rattle.std.proofs.lemmas.List.Elements.{Contains-append_right}
@@ -71,9 +70,3 @@ pub cuts_go_on : (start : ℕ) (cuts : List ℕ) (end more : ℕ) → Cuts start
     → Cuts start (cuts ++ more ∷ []) more
 cuts_go_on start [] end more all grows = grind (arith, all, grows)
 cuts_go_on start (cut ∷ cuts) end more all grows = grind (arith, all, grows, cuts_go_on cut cuts end more)
-
--- ---- what stands where `fold` stopped
-
--- the files before are those after other reads
-pub StandUpTo-before : (outputs : List Output) (old middle new : Files) → SameFiles old middle → StandUpTo outputs middle new → StandUpTo outputs old new
-StandUpTo-before outputs old middle new same stands = subst (λ files. StandUpTo outputs files new) (fun_ext same) stands

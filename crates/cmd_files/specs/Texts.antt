@@ -22,15 +22,9 @@ bad_config_text fault =
     codes "bad config " ++ (decimal fault.number
     ++ (codes " at " ++ (place_text fault.place ++ codes "\n")))
 
--- the line `bad journal line L: N`
-abbrev pub bad_journal_text : ℕ → ℕ → List ℕ
-bad_journal_text line number =
-    codes "bad journal line " ++ (decimal line ++ (codes ": " ++ (decimal number ++ codes "\n")))
-
--- the line `bad trace line L: N`
-abbrev pub bad_trace_text : ℕ → ℕ → List ℕ
-bad_trace_text line number =
-    codes "bad trace line " ++ (decimal line ++ (codes ": " ++ (decimal number ++ codes "\n")))
+-- the line `bad journal line L: N`, or that of a trace, which begins with other words
+abbrev bad_line_text : (words : List ℕ) (line number : ℕ) → List ℕ
+bad_line_text words line number = words ++ (decimal line ++ (codes ": " ++ (decimal number ++ codes "\n")))
 
 -- the word for a fault of a message
 abbrev pub fault_word : FrameFault → List ℕ
@@ -73,8 +67,8 @@ recording = codes "fold" ∷ codes "check" ∷ codes "keep" ∷ codes "explain" 
 abbrev pub row_of : Refusal (List ℕ) → Row
 row_of (TooLong name) = row 4 (codes "too long " ++ (name ++ codes "\n")) (codes "decode" ∷ codes "export" ∷ codes "bundle" ∷ codes "unbundle" ∷ codes "report" ∷ codes "replay" ∷ codes "migrate" ∷ (sealing ++ recording))
 row_of (BadConfig fault) = row 5 (bad_config_text fault) (codes "replay" ∷ codes "migrate" ∷ recording)
-row_of (BadJournal line number) = row 6 (bad_journal_text line number) recording
-row_of (BadTrace line number) = row 6 (bad_trace_text line number) (codes "replay" ∷ [])
+row_of (BadJournal line number) = row 6 (bad_line_text (codes "bad journal line ") line number) recording
+row_of (BadTrace line number) = row 6 (bad_line_text (codes "bad trace line ") line number) (codes "replay" ∷ [])
 row_of (Differ at) = row 9 (number_text (codes "differs at ") at) (codes "check" ∷ [])
 row_of (BadMessages bad) = row 10 (bad_message_text bad) (codes "decode" ∷ codes "export" ∷ codes "bundle" ∷ sealing)
 row_of (BadSource name bad) = row 10 (bad_source_text name bad) (codes "report" ∷ [])

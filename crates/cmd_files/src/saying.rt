@@ -1,7 +1,7 @@
 //! The one text that a run puts to its sink.
 
 ghost use Rattle.std.specs.Prelude.{◌≡◌, List, ℕ, Err, IfOk, string_bytes};
-ghost use Rattle.cmd_files.specs.{Puts, Says, Tells, plain_end, plain_refusal, bad_config_text, bad_message_text, bad_source_text, fault_word, OnDisk, Refused};
+ghost use Rattle.cmd_files.specs.{Puts, Says, Tells, plain_end, plain_refusal, bad_config_text, fault_word, OnDisk, Refused};
 
 use crate::status::{
     BAD_CONFIG, BAD_COUNTER, BAD_DISK, BAD_JOURNAL, BAD_MESSAGE, BAD_TAG, BAD_UNIT, CANNOT_READ,
@@ -65,9 +65,15 @@ fn tell_refusal<K: Sink>(alloc: Global, refusal: Refusal<&str>, out: &mut K) -> 
             let told = format!(in alloc; "bad trace line {line}: {number}\n");
             say_line(told, BAD_JOURNAL, out)
         }
-        Refusal::BadMessages(bad) => say_line(bad_message_line(alloc, bad), BAD_MESSAGE, out),
-        Refusal::BadSource(name, bad) => {
-            say_line(bad_source_line(alloc, name, bad), BAD_MESSAGE, out)
+        Refusal::BadMessages(BadMessage { at, fault }) => {
+            let word = fault_word(fault);
+            let told = format!(in alloc; "bad message at {at}: {word}\n");
+            say_line(told, BAD_MESSAGE, out)
+        }
+        Refusal::BadSource(name, BadMessage { at, fault }) => {
+            let word = fault_word(fault);
+            let told = format!(in alloc; "bad message in {name} at {at}: {word}\n");
+            say_line(told, BAD_MESSAGE, out)
         }
         Refusal::Instance(name) => {
             say_line(format!(in alloc; "instance {name}\n"), INSTANCE, out)
@@ -128,22 +134,6 @@ fn bad_config_line(alloc: Global, fault: ConfigFault) -> Result<String, AllocErr
         ConfigPlace::Class(index) => format!(in alloc; "bad config {number} at class {index}\n"),
         ConfigPlace::Event(index) => format!(in alloc; "bad config {number} at event {index}\n"),
     }
-}
-
-fn bad_message_line(alloc: Global, bad: BadMessage) -> Result<String, AllocError>
-    ensures { IfOk result (λ text. string_bytes text ≡ bad_message_text bad) }
-{
-    let at = bad.at;
-    let word = fault_word(bad.fault);
-    format!(in alloc; "bad message at {at}: {word}\n")
-}
-
-fn bad_source_line(alloc: Global, name: &str, bad: BadMessage) -> Result<String, AllocError>
-    ensures { IfOk result (λ text. string_bytes text ≡ bad_source_text name.entry.now bad) }
-{
-    let at = bad.at;
-    let word = fault_word(bad.fault);
-    format!(in alloc; "bad message in {name} at {at}: {word}\n")
 }
 
 /// The word for a fault of a message.

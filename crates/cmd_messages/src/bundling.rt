@@ -3,6 +3,7 @@
 ghost use Rattle.std.specs.Prelude.{◌≡◌, ◌≤◌};
 ghost use Rattle.cmd_steps.specs.Words.{EndsAs, IfOk, List, Makes, bundle as bundle_command, packs, pair_of, plain_end, sized_of, unbundle as unbundle_command, units_text, unpacks, ℕ};
 
+use crate::Line;
 use cmd_files::{MAX_MESSAGES_BYTES, MAX_UNITS_BYTES, Refusal, Stop, read_file};
 use cmd_steps::{Made, write_made};
 use cmd_words::{PairNames, SizedNames};
@@ -13,11 +14,7 @@ use std::alloc::{AllocError, Global};
 /// Packs the messages of a file into units, and returns the line that counts both.
 /// Steps: MESSAGES read, as `ids_bundle::pack` and `count`, and one file written. Memory: may answer want of memory.
 /// Waits: as its shelf. By: `EndsAs`; read off.
-pub fn bundle<'a, H: Shelf>(
-    alloc: Global,
-    names: SizedNames<'a>,
-    shelf: &mut H,
-) -> Result<Vec<u8>, Stop<&'a str>>
+pub fn bundle<'a, H: Shelf>(alloc: Global, names: SizedNames<'a>, shelf: &mut H) -> Line<'a>
     requires { 64 ≤ names.size }
     ensures { EndsAs (bundle_command (sized_of names.entry)) (plain_end result) (H.shows shelf.old) (H.shows shelf.new) }
 {
@@ -32,11 +29,7 @@ pub fn bundle<'a, H: Shelf>(
 /// Takes the messages of a file of units out of them, and returns the line that counts both.
 /// Steps: UNITS read, as `ids_bundle::unpack` and `count`, and one file written. Memory: may answer want of memory.
 /// Waits: as its shelf. By: `EndsAs`; read off.
-pub fn unbundle<'a, H: Shelf>(
-    alloc: Global,
-    names: PairNames<'a>,
-    shelf: &mut H,
-) -> Result<Vec<u8>, Stop<&'a str>>
+pub fn unbundle<'a, H: Shelf>(alloc: Global, names: PairNames<'a>, shelf: &mut H) -> Line<'a>
     ensures { EndsAs (unbundle_command (pair_of names.entry)) (plain_end result) (H.shows shelf.old) (H.shows shelf.new) }
 {
     let bytes = read_file(alloc, names.source, MAX_UNITS_BYTES, shelf)?;

@@ -19,3 +19,6 @@ pub use export::export_file;
 pub use ids_reporter::Drain;
 pub use report::run_report;
 pub use sealing::{sign, verify};
+
+/// How a command ends: with the line that it puts, or why it stopped.
+type Line<'a> = Result<Vec<u8>, cmd_files::Stop<&'a str>>;

@@ -1,9 +1,9 @@
 //! The commands `sign` and `verify`: messages with a counter and a tag, and without them again.
 
 ghost use Rattle.std.specs.Prelude.{◌^◌, ◌≡◌, ◌≤◌};
-ghost use Rattle.cmd_steps.specs.Words.{EndsAs, Judges, List, Makes, Reads, key_judged, keyed_in, keyed_of, length, plain_end, seal_refusal, seals, seen_as, sign as sign_command, task_stop, unseal_refusal, unseals, verify as verify_command, ℕ};
-ghost use Rattle.cmd_messages.specs.Read.{keyed_with};
+ghost use Rattle.cmd_steps.specs.Words.{EndsAs, Judges, List, Makes, Reads, key_judged, keyed_in, keyed_of, length, plain_end, seals, seen_as, sign as sign_command, task_stop, unseal_refusal, unseals, verify as verify_command, ℕ};
 
+use crate::Line;
 use cmd_files::{MAX_KEY_BYTES, MAX_MESSAGES_BYTES, MAX_SEALED_BYTES, Refusal, Stop, read_file};
 use cmd_steps::{Made, write_made};
 use cmd_words::KeyedNames;
@@ -17,11 +17,7 @@ const SEAL_BYTES: usize = 42;
 /// Adds a counter and a tag to each message of a file, and returns the line that counts them.
 /// Steps: KEY and MESSAGES read, as `frame_auth::seal` and `count` of the sealed, and one file written. Memory: may
 /// answer want of memory. Waits: as its shelf. By: `EndsAs`; read off.
-pub fn sign<'a, H: Shelf>(
-    alloc: Global,
-    names: KeyedNames<'a>,
-    shelf: &mut H,
-) -> Result<Vec<u8>, Stop<&'a str>>
+pub fn sign<'a, H: Shelf>(alloc: Global, names: KeyedNames<'a>, shelf: &mut H) -> Line<'a>
     requires { names.start ≤ 2 ^ 62 }
     ensures { EndsAs (sign_command (keyed_of names.entry)) (plain_end result) (H.shows shelf.old) (H.shows shelf.new) }
 {
@@ -34,11 +30,7 @@ pub fn sign<'a, H: Shelf>(
 /// messages.
 /// Steps: KEY and SIGNED read, as `frame_auth::unseal`, and one file written. Memory: may answer want of memory.
 /// Waits: as its shelf. By: `EndsAs`; read off.
-pub fn verify<'a, H: Shelf>(
-    alloc: Global,
-    names: KeyedNames<'a>,
-    shelf: &mut H,
-) -> Result<Vec<u8>, Stop<&'a str>>
+pub fn verify<'a, H: Shelf>(alloc: Global, names: KeyedNames<'a>, shelf: &mut H) -> Line<'a>
     requires { names.start ≤ 2 ^ 62 }
     ensures { EndsAs (verify_command (keyed_of names.entry)) (plain_end result) (H.shows shelf.old) (H.shows shelf.new) }
 {
@@ -54,7 +46,7 @@ fn read_keyed<'a, H: Shelf>(
     limit: u64,
     shelf: &mut H,
 ) -> Result<(Key, Vec<u8>), Stop<&'a str>>
-    ensures { Reads (keyed_in limit (keyed_of names.entry)) (seen_as keyed_with result)
+    ensures { Reads (keyed_in limit (keyed_of names.entry)) (seen_as (λ read. record { key = read.0; bytes = read.1.items }) result)
         (H.shows shelf.old) (H.shows shelf.new) }
 {
     let text = read_file(alloc, names.key, MAX_KEY_BYTES, shelf)?;
@@ -92,7 +84,9 @@ fn make_sealed<'a>(
             let line = line.into_bytes();
             Ok(Made { bytes, line })
         }
-        Err(fault) => Err(seal_stop(fault)),
+        Err(SealFault::Bad(bad)) => Err(Stop::Refused(Refusal::BadMessages(bad))),
+        Err(SealFault::Signed { at }) => Err(Stop::Refused(Refusal::Signed { at: at as u64 })),
+        Err(SealFault::NoMemory) => Err(Stop::NoMemory),
     }
 }
 
@@ -115,16 +109,6 @@ fn make_unsealed<'a>(
             Ok(Made { bytes, line })
         }
         Err(fault) => Err(unseal_stop(fault)),
-    }
-}
-
-fn seal_stop<'a>(fault: SealFault) -> Stop<&'a str>
-    ensures { result ≡ task_stop (seal_refusal fault) }
-{
-    match fault {
-        SealFault::Bad(bad) => Stop::Refused(Refusal::BadMessages(bad)),
-        SealFault::Signed { at } => Stop::Refused(Refusal::Signed { at: at as u64 }),
-        SealFault::NoMemory => Stop::NoMemory,
     }
 }
 

@@ -1,9 +1,8 @@
 -- How a command ends, by how its input files were read and its files written.
-use Rattle.cmd_spec.proofs.Names.{AreWritten, Bor, CannotRead, Command, Deserves, Does, EndsAs, Err, Failed, Files, Global, IsTrue, KeepsConfig, List, MemoryRefused, NoMemory, Ok, OneFails, PartWritten, Reads, Refusal, Refused, Refuses, Result, SameBut, Shelved, StandUpTo-before, Stop, StopsFor, Task, Vec, WasDone, Work, WriteFault, Writes, arith, inl, inr, judge, migrate, names_of, plain_end, plain_stop, reading_of, stop_of_write, written_by, ℕ, ◌∙◌, ◌≡◌}
-use Rattle.std.specs.Prelude.{⊤}
+use Rattle.cmd_spec.proofs.Names.{AreWritten, Bor, IsErrAnd, CannotRead, Command, Deserves, Does, EndsAs, Err, Failed, Files, Global, IsTrue, KeepsConfig, List, MemoryRefused, NoMemory, Ok, OneFails, PartWritten, Reads, Refusal, Refused, Refuses, Result, SameBut, Shelved, StandUpTo, Stop, StopsFor, Task, Vec, WasDone, Work, WriteFault, Writes, arith, inl, inr, judge, migrate, names_of, plain_end, plain_stop, reading_of, stop_of_write, subst, written_by, ℕ, ⊤, ◌∙◌, ◌≡◌}
+use Rattle.std.proofs.Math.Path.{fun_ext}
 use Rattle.cmd_files.proofs.ExitLemmas.{left_with}
 use Rattle.cmd_files.proofs.ReadingLemmas.{comes_over, read_over}
-use Rattle.std.specs.Result.{IsErrAnd}
 use Rattle.cmd_spec.proofs.MayLemmas.{all_end, may_end}
 
 -- ---- what `migrate` keeps
@@ -72,8 +71,9 @@ module _ (command : Command) (task : Task) (old mid : Shelved) (came : Reads (re
 
     part_written : (fault : WriteFault) → Writes work.outputs (Err fault) mid new → IsTrue old.tells → PartWritten command old.files new.files
     part_written fault wrote told =
-        let stands = wrote.ends.1 (rw came.tells told) in
-        search (task_found told, StandUpTo-before work.outputs old.files mid.files new.files (came.same told) stands, others wrote told)
+        let stands : StandUpTo work.outputs old.files new.files =
+        subst (λ (files : Files). StandUpTo work.outputs files new.files) (fun_ext (came.same told)) (wrote.ends.1 (rw came.tells told)) in
+        search (task_found told, stands, others wrote told)
 
     fails : (fault : WriteFault) → Writes work.outputs (Err fault) mid new → OneFails (written_by command) old.faults new.faults fault
     fails fault wrote = rw (came.ends.0, writes) at wrote.ends.0

@@ -3,5 +3,3 @@ pub mod JournalLemmas
 pub mod MayLemmas
 pub mod Names
 pub mod RunLemmas
-pub mod SteadyLemmas
-pub mod TaskLemmas

@@ -1,11 +1,5 @@
 -- How the reading of each command may end.
-use Rattle.cmd_spec.proofs.Names.{BadConfig, CannotRead, Comes, Command, ConfigFault, Contains, Err, List, MayRefuse, Ok, Reading, Refusal, Refused, Refuses, Result, Shelved, Stop, Task, TooLong, [], arith, bundle, check, configuration, decode, fold, gen, gives, if_found, inl, inr, keep, migrate, read_by, reading_of, reads, recall, refl, refuses, replay, report, sign, unbundle, verify, ℕ, ⊤, ◌>>=◌, ◌∷◌, told_in, file, messages_of, Parts}
-use Rattle.std.proofs.Common.{suc}
-use Rattle.ids_reporter.specs.Sources.{Sources}
-use Rattle.cmd_spec.specs.{sources_in}
-use Rattle.cmd_words.specs.Command.{explain, export, ReportFiles}
-use Rattle.cmd_spec.specs.Judge
-use Rattle.cmd_spec.specs.{check_judged, reports}
+use Rattle.cmd_spec.proofs.Names.{BadConfig, CannotRead, Comes, Command, ConfigFault, Contains, Err, List, MayRefuse, Ok, Reading, Refusal, Refused, Refuses, Result, Shelved, Stop, Task, TooLong, [], arith, bundle, check, configuration, decode, fold, gen, gives, if_found, inl, inr, keep, migrate, read_by, reading_of, reads, recall, refl, refuses, replay, report, sign, unbundle, verify, ℕ, ⊤, ◌>>=◌, ◌∷◌, told_in, file, messages_of, Parts, ReportFiles, Sources, check_judged, explain, export, reports, sources_in, suc}
 
 -- a file that a command reads may be too long for it
 long_may : (command : Command) (name : List ℕ) → Contains (read_by command) name → MayRefuse command (TooLong name)
@@ -43,11 +37,12 @@ sources_may files (name ∷ names) are sources =
 
 -- ---- the commands
 
+second_of : (a b : List ℕ) → Contains (a ∷ b ∷ []) b
+second_of a b = (1, omega arith, refl)
+
 pub may_end : (command : Command) → AllEnd command (reading_of command)
-unfolding Judge.reading_of
-may_end (fold files) =
-    let journal : Contains (read_by (fold files)) files.from.journal = (1, omega arith, refl) in
-    ((0, omega arith, refl), λ text. grind (arith, journal))
+unfolding reading_of
+may_end (fold files) = ((0, omega arith, refl), λ text. grind (arith, second_of files.from.config files.from.journal))
 may_end (check files) = ((0, omega arith, refl), λ text. go (configuration text))
   where
     go : (found : Result Parts ConfigFault) → AllEnd (check files) ((if_found BadConfig found >>= told_in files.from.journal)
@@ -59,23 +54,13 @@ may_end (check files) = ((0, omega arith, refl), λ text. go (configuration text
 may_end (decode name) = ((0, omega arith, refl), λ bytes. grind (arith))
 may_end (gen wanted) = λ refusal none. absurd none
 may_end (migrate files) = ((0, omega arith, refl), λ text. grind (arith))
-may_end (replay files) =
-    let trace : Contains (read_by (replay files)) files.trace = (1, omega arith, refl) in
-    ((0, omega arith, refl), λ text. grind (arith, trace))
-may_end (sign names) =
-    let source : Contains (read_by (sign names)) names.files.source = (1, omega arith, refl) in
-    ((0, omega arith, refl), λ text. grind (arith, source))
-may_end (verify names) =
-    let source : Contains (read_by (verify names)) names.files.source = (1, omega arith, refl) in
-    ((0, omega arith, refl), λ text. grind (arith, source))
+may_end (replay files) = ((0, omega arith, refl), λ text. grind (arith, second_of files.config files.trace))
+may_end (sign names) = ((0, omega arith, refl), λ text. grind (arith, second_of names.key names.files.source))
+may_end (verify names) = ((0, omega arith, refl), λ text. grind (arith, second_of names.key names.files.source))
 may_end (bundle names) = ((0, omega arith, refl), λ bytes refusal refuses. grind (arith, refuses.2))
 may_end (unbundle names) = ((0, omega arith, refl), λ bytes refusal refuses. grind (arith, refuses.2))
 may_end (report files) = sources_may files files.sources (λ name is. is) []
-may_end (keep names) =
-    let journal : Contains (read_by (keep names)) names.from.journal = (1, omega arith, refl) in
-    ((0, omega arith, refl), λ text. grind (arith, journal))
+may_end (keep names) = ((0, omega arith, refl), λ text. grind (arith, second_of names.from.config names.from.journal))
 may_end (recall names) = λ refusal none. absurd none
-may_end (explain names) =
-    let journal : Contains (read_by (explain names)) names.journal = (1, omega arith, refl) in
-    ((0, omega arith, refl), λ text. grind (arith, journal))
+may_end (explain names) = ((0, omega arith, refl), λ text. grind (arith, second_of names.config names.journal))
 may_end (export names) = ((0, omega arith, refl), λ bytes. grind (arith))

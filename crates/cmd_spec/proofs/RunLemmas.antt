@@ -1,7 +1,6 @@
 -- How a command ended, how that was told, and what the files deserve.
-use Rattle.cmd_spec.proofs.Names.{Bool, Bor, CanBeDone, CannotRead, CannotWrite, Command, Deserves, DidWork, Does, EndsAs, EndsOrFails, EndsWith, Err, Global, Heard, IsTrue, List, NoMemory, None, Ok, OnDisk, Option, Puts, Ran, RanCommand, Refusal, Refused, Refuses, Result, SameBut, Shelved, Some, Stop, StopsFor, Task, Tells, Vec, Work, WriteFault, answer_status, answer_text, arith, false, inl, inr, judge, no_memory_text, plain_end, plain_stop, put_status, refl, row_of, stop_status, true, written_by, written_of, ℕ, ⊤, ◌≡◌, ◌≢◌, ap}
-use Rattle.cmd_files.specs.Texts.{disk_status}
-use Rattle.cmd_files.specs.declared.stop.DiskStop.{DiskStop}
+use Rattle.cmd_spec.proofs.Names.{Bool, Bor, CanBeDone, CannotRead, CannotWrite, Command, Deserves, DidWork, Does, EndsAs, EndsOrFails, EndsWith, Err, Global, Heard, IsTrue, List, NoMemory, None, Ok, OnDisk, Option, Puts, Ran, RanCommand, Refusal, Refused, Refuses, Result, SameBut, Shelved, Some, Stop, StopsFor, Task, Tells, Vec, Work, answer_status, answer_text, arith, false, inl, inr, judge, no_memory_text, plain_end, plain_stop, refl, row_of, stop_status, true, written_by, written_of, ℕ, ⊤, ◌≡◌, ◌≢◌, ap}
+use Rattle.cmd_spec.specs.Names.{DiskStop, MissesOne, disk_status}
 
 module _ (command : Command) (status : ℕ) (old new : Shelved) (before after : Heard) where
   -- a run that ended so, of whose answer this holds
@@ -78,10 +77,6 @@ module _ (command : Command) (status : ℕ) (old new : Shelved) (before after : 
           elim own [ inl is ↦ inr (inr (record { stop = stop; may = ends.may; is = is })) | inr other ↦ inl (inr other) ]
       served_ends other can ends puts = grind (arith, ends, puts.is, puts.cause)
 
--- a run has no status but its own, that of its put and that of want of memory
-pub never_put : (other wanted : ℕ) (put : Result ⊤ WriteFault) → other ≢ 7 → other ≢ 8 → wanted ≢ other → other ≢ put_status wanted put
-never_put other wanted put seven eight own is = grind (arith, seven, eight, own, is)
-
 -- a status that is neither 0 nor that of a failed read or write
 abbrev pub IsOwn : ℕ → Type 0
 IsOwn status = (status ≢ 0) × (status ≢ 3) × (status ≢ 7)
@@ -130,3 +125,17 @@ words_starved None true status old before after clap puts =
 words_starved None false status old before after clap puts = absurd (cc)
 words_starved (Some command) by_clap status old before after clap puts =
     record { answer = Err NoMemory; ends = inl (λ told name. refl); puts = puts }
+
+-- ---- a shelf that counts no fault
+
+-- each file could be read and written
+pub no_file_fails : (command : Command) (status : ℕ) (old new : Shelved) (before after : Heard) → RanCommand command status old new before after
+    → new.faults.count ≡ 0 → (status ≢ 3) × (status ≡ 7 → MissesOne before.misses after.misses)
+no_file_fails command status old new before after ran none = ended ran.answer ran.ends ran.puts
+  where
+    ended : (answer : Result (List ℕ) (Stop (List ℕ))) → EndsAs command answer old new
+        → Puts (answer_text answer) (answer_status answer) status before after
+        → (status ≢ 3) × (status ≡ 7 → MissesOne before.misses after.misses)
+    ended (Err (CannotRead name)) ends puts = absurd (grind (arith, none, ends.fails))
+    ended (Err CannotWrite) ends puts = absurd (grind (arith, none, ends.fails))
+    ended other ends puts = grind (arith, puts.is, puts.cause)

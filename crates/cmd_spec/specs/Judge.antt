@@ -8,13 +8,11 @@ use Rattle.gen_recording.specs.Generated.{config_for, trace_for, journal_for, li
 use Rattle.chain_endings.specs.ExplainedText.{explained_text}
 use Rattle.frame_auth.specs.{GivesSealed, GivesUnsealed, filled}
 use Rattle.message_export.specs.Exported.{exported}
-use Rattle.cmd_spec.specs.Copying.{IsCopyWork, one_file, seal_refusal, unseal_refusal}
 use Rattle.cmd_spec.specs.Keeping.{IsRecallWork, saved_text}
 use Rattle.cmd_spec.specs.Report.{IsReportWork, sources_in}
-use Rattle.cmd_spec.specs.Packing.{IsPackWork, IsUnpackWork, pack_refusal, unpack_refusal}
-use Rattle.cmd_spec.specs.Fold.{fold_outputs, fold_text}
+use Rattle.cmd_spec.specs.Packing.{IsCopyWork, IsPackWork, IsUnpackWork, one_file, pack_refusal, seal_refusal, unpack_refusal, unseal_refusal}
+use Rattle.cmd_spec.specs.Fold.{IsReplayWork, fold_outputs, fold_text}
 use Rattle.cmd_spec.specs.FoldedJournal.{folded_in}
-use Rattle.cmd_spec.specs.Replay.{IsReplayWork}
 
 -- ---- what they hold
 

@@ -3,7 +3,7 @@ use Rattle.std.specs.Prelude.{◌≡◌}
 use Rattle.cmd_spec.specs.Names.{Command, DiskStop, List, Work, number_text, codes, keep, length, memory_text, recall, ℕ}
 use Rattle.ids_types.specs.MemoryRow.{Row}
 use Rattle.cmd_files.specs.declared.stop.DiskStop.TheVariants.{Failed, Damaged}
-use Rattle.cmd_spec.specs.Copying.{one_file}
+use Rattle.cmd_spec.specs.Packing.{one_file}
 
 -- the line `saved T`, with its line feed
 abbrev pub saved_text : ℕ → List ℕ

@@ -4,7 +4,7 @@ use Rattle.cmd_spec.specs.Names.{BadSource, Bool, Instance, List, MessageParts, 
 use Rattle.ids_reporter.specs.Forwarding.{AreMerged}
 use Rattle.ids_reporter.specs.declared.index.Instance.{Instance as Managers}
 use Rattle.ids_reporter.specs.declared.index.Instance.TheVariants.{Empty, One, Mixed}
-use Rattle.cmd_spec.specs.Copying.{one_file}
+use Rattle.cmd_spec.specs.Packing.{one_file}
 
 -- ---- sources
 
@@ -38,14 +38,10 @@ sources_in sources (name ∷ names) = source_in sources name >>= λ messages. so
 
 -- ---- the work
 
--- the line `sources S messages M`, with its line feed
-abbrev pub sources_text : (sources messages : ℕ) → List ℕ
-sources_text sources messages =
-    codes "sources " ++ (decimal sources ++ (codes " messages " ++ (decimal messages ++ codes "\n")))
-
--- the line that counts the sources and all their messages
+-- the line `sources S messages M`, with its line feed, that counts the sources and all their messages
 abbrev pub report_text : Sources → List ℕ
-report_text sources = sources_text (length sources) (sum_by length sources)
+report_text sources =
+    codes "sources " ++ (decimal (length sources) ++ (codes " messages " ++ (decimal (sum_by length sources) ++ codes "\n")))
 
 -- the sources, merged in some way, and their line
 pub record IsReportWork (target : List ℕ) (sources : Sources) (work : Work) : Type 0 where

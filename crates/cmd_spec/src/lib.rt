@@ -7,7 +7,5 @@
 #![tactic(auto)]
 
 mod laws;
-mod steady;
 
-pub use laws::files_decide_the_answer;
-pub use steady::no_file_fails_where_no_fault_is_counted;
+pub use laws::{files_decide_the_answer, no_file_fails_where_no_fault_is_counted};

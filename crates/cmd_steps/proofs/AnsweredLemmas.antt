@@ -1,14 +1,10 @@
 -- How a run ends that answers something beside its status.
-use Rattle.cmd_steps.proofs.Names.{Bor, Command, EndsAs, Err, Files, Finished, Heard, IfOk, IsErrAnd, IsTrue, List, None, Ok, Option, RanWith, Result, RunsWith, SameBut, Says, Shelved, Some, Stop, Tells, TellsFinished, arith, disk_own, ended_others, ended_ran, finished_end, left_with, plain_stop, refusal_own, subst, ℕ, ◌≡◌, ◌≢◌}
+use Rattle.cmd_steps.proofs.Names.{Bor, Command, EndsAs, Err, Files, Finished, Heard, IfOk, IsErrAnd, IsTrue, List, None, Ok, Option, RanWith, Result, RunsWith, SameBut, Shelved, Some, Stop, Tells, TellsFinished, arith, disk_own, ended_others, ended_ran, finished_end, left_with, plain_stop, refusal_own, ℕ, ◌≡◌, ◌≢◌}
 use Rattle.cmd_steps.specs.Answered.{written_in}
-
--- a text that does not go with status 0 does not end with it
-says_fails : (text : List ℕ) (wanted status : ℕ) (before after : Heard) → wanted ≢ 0 → Says text wanted status before after → status ≢ 0
-says_fails text wanted status before after fails says = grind (arith, fails, says)
 
 -- a run that stopped does not end with status 0
 stop_fails : (reason : Stop (List ℕ)) (status : ℕ) (before after : Heard) → Tells (Err reason) status before after → status ≢ 0
-stop_fails reason status before after tells = grind (arith, tells, says_fails, refusal_own, disk_own)
+stop_fails reason status before after tells = grind (arith, tells, refusal_own, disk_own)
 
 -- an exit with this reason ends so
 pub left_finished : {M : Type 0} (command : Command) (answer : Result (Finished M) (Stop (Bor (List ℕ)))) (reason : Stop (Bor (List ℕ)))
@@ -31,14 +27,6 @@ module _ {M : Type 0} (command : Command) (Tell : M → List ℕ → Files → F
     ran = ended_ran command status old new before after (Err reason) ends tells.0;
     answers = rw tells.1 (stop_fails (plain_stop reason) status before after tells.0);
   }
-
-module _ {F M : Type 0} (command : F → Command) (Tell : F → M → List ℕ → Files → Files → Type 0) (asked : Option F)
-    (status : ℕ) (old new : Shelved) (before after : Heard) where
-  -- what the words ask for ran
-  pub asked_with : (files : F) (answer : Option M) → Some files ≡ asked
-      → RanWith (command files) (Tell files) answer status old new before after
-      → RunsWith command Tell asked answer status old new before after
-  asked_with files answer asks ran = subst (λ f. RunsWith command Tell f answer status old new before after) asks ran
 
 -- ---- files that it does not write
 

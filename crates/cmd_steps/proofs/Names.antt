@@ -18,12 +18,11 @@ pub use Rattle.ids_frame.specs.{FitsMessage, AreMessages, joined}
 pub use Rattle.ids_reporter.proofs.RunLemmas.{apart_more, small_more}
 pub use Rattle.ids_reporter.specs.Sources.{AreApart, AreSmall, Sources, instance_of, source_at}
 pub use Rattle.ids_types.specs.MemoryRow.{Row}
-pub use Rattle.std.proofs.Common.{drop, get_or, length-drop, min, rules, suc, take, zero, ◌-◌, ◌==◌, ◌⊎◌}
+pub use Rattle.std.proofs.Common.{drop, get_or, length-drop, min, rules, suc, take, zero, ◌-◌, ◌==◌, ◌⊎◌, vec_capacity, ◌/◌}
 pub use Rattle.std.proofs.lemmas.Bool.{cases_eq, eq-eqb, le-ltb, ne_eqb}
 pub use Rattle.std.proofs.lemmas.Grind.{common_steps, flat_map-append}
 pub use Rattle.std.proofs.lemmas.List.{append-nil, drop_all, drop_more, length-reverse, take_all, take_rest}
 pub use Rattle.std.proofs.lemmas.List.Sums.{common_prefix_len-le, count_by-le-length, length-filter, sum-map}
 pub use Rattle.std.specs.List.{All}
-pub use Rattle.std.specs.Prelude.{vec_capacity, ◌/◌}
 pub use Rattle.std.specs.Result.{IsErrAnd}
 pub use Rattle.text_spec.specs.{message_line, journal_in, line_feed, text_of}

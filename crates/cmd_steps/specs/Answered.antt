@@ -1,11 +1,8 @@
 -- What a run does that answers something beside its status.
-use Rattle.std.specs.Borrow.{Bor}
 use Rattle.std.specs.Prelude.{◌≡◌, ◌≢◌, ℕ, false, List, [], IsTrue, Option, Some, None, Result, Ok, Err}
-use Rattle.cmd_steps.specs.Names.{Files, Shelved, Heard, Stop}
+use Rattle.cmd_steps.specs.Names.{Files, Shelved, Heard, Stop, Bor, RanCommand, Misused, Command, written_by}
 pub use Rattle.cmd_steps.specs.declared.answering.Finished.{Finished}
 use Rattle.cmd_files.specs.{Puts, Tells, plain_stop, seen_as}
-use Rattle.cmd_spec.specs.Run.{RanCommand, Misused}
-use Rattle.cmd_words.specs.Command.{Command, written_by}
 
 -- a run was done, and made this: its text was put, and the files tell what was made
 pub record AnswersMade {M : Type 0} (Tell : M → List ℕ → Files → Files → Type 0) (made : M) (status : ℕ)

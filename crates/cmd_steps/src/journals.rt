@@ -10,9 +10,6 @@ use ids_types::{History, Loss};
 use journal::{Journal, JournalFault, read};
 use std::alloc::Global;
 
-/// The fault of a turn whose number of held-back events is not the chain's.
-const HELD_BACK: u8 = 8;
-
 /// What a journal tells, and what the chain gives for it.
 #[derive(Debug, Drop)]
 pub struct Judged {
@@ -44,10 +41,9 @@ pub(crate) fn judge_journal<'a>(
     drop(text);
     let folded = outcome(alloc, config, &history)?;
     if let Some(line) = held_back_line(&history, &folded.limited) {
-        return Err(Stop::Refused(Refusal::BadJournal {
-            line,
-            number: HELD_BACK,
-        }));
+        // The fault of a turn whose number of held-back events is not the chain's.
+        let number = 8;
+        return Err(Stop::Refused(Refusal::BadJournal { line, number }));
     }
     Ok(Judged {
         history,

@@ -1,11 +1,11 @@
 -- Which run the words ask for, and what it does.
 use Rattle.std.specs.Prelude.{if◌then◌else◌, ◌||◌, ◌∷◌, ◌≡◌, ◌⊎◌}
-use Rattle.cmd_steps.specs.Names.{Heard, List, Option, Shelved, String, [], codes, string_bytes, ℕ}
+use Rattle.cmd_steps.specs.Names.{Bor, Heard, List, None, Option, Result, Shelved, Some, String, Vec, [], codes, string_bytes, ℕ}
 use Rattle.idsm_run.specs.Replayed.{Replays}
 use Rattle.memory_disk.specs.Disks.{Shown}
 use Rattle.cmd_disk.specs.Runs.{RunsOnDisk}
 use Rattle.cmd_messages.specs.Reported.{Reports}
-use Rattle.cmd_steps.specs.Words.{Global, Puts, Ran, are_read_by_clap, asks, command_of, disk_of, plain_of, replay_of, report_of}
+use Rattle.cmd_steps.specs.Words.{Command, EndsAs, Global, Puts, Ran, Stop, are_read_by_clap, asks, command_of, disk_of, plain_end, plain_of, replay_of, report_of}
 
 -- a run over a disk, of a replay, of a report, or of a command that needs files alone
 pub data TopCall : Type 0 where
@@ -57,3 +57,9 @@ RunsAs Makes shows replays words status old new before after = RunsApart (Replay
 RunsAs Makes shows reports words status old new before after = RunsApart (Reports (report_of (command_of words))) status old new before after
 RunsAs Makes shows plain words status old new before after =
     Ran (plain_of (command_of words)) (are_read_by_clap words) status old new before after
+
+-- what a command does that starts no thread and needs no disk: it ended so; where there is no such command, nothing was done
+abbrev pub Performs : Option Command → Option (Result (Vec ℕ Global) (Stop (Bor (List ℕ)))) → Shelved → Shelved → Type 0
+Performs None end old new = (end ≡ None) × (new ≡ old)
+Performs (Some command) None old new = ⊥
+Performs (Some command) (Some end) old new = EndsAs command (plain_end end) old new

@@ -3,7 +3,7 @@
 ghost use Rattle.cmd_steps.specs.Words.{EndsAs, explain_command, plain_end, recording};
 
 use cmd_files::Stop;
-use cmd_steps::{Inputs, Judged, read_inputs};
+use cmd_steps::read_inputs;
 use cmd_words::RecordingNames;
 use ids_outside::Shelf;
 use std::alloc::Global;
@@ -18,13 +18,8 @@ pub(crate) fn explain<'a, H: Shelf>(
     ensures { EndsAs (explain_command (recording names.entry)) (plain_end result) (H.shows shelf.old) (H.shows shelf.new) }
 {
     let inputs = read_inputs(alloc, names, shelf)?;
-    let Inputs { config, journal } = inputs;
-    let Judged {
-        history,
-        losses,
-        folded,
-    } = journal;
-    drop(folded);
-    let text = chain_endings::explain(alloc, &config, &history, &losses)?;
+    let journal = inputs.journal;
+    drop(journal.folded);
+    let text = chain_endings::explain(alloc, &inputs.config, &journal.history, &journal.losses)?;
     Ok(text)
 }

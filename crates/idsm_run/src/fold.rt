@@ -37,17 +37,16 @@ fn new_files<'f>(names: FoldNames<'f>, folded: &'f Folded, memory: &'f [u8]) -> 
     ensures files { map output_of result ≡ fold_outputs (files_of names.entry) folded.now.sent.items memory.now }
 {
     [
-        NewFile {
-            name: names.messages,
-            bytes: &folded.sent,
-            cuts: &folded.ends,
-        },
-        NewFile {
-            name: names.memory,
-            bytes: memory,
-            cuts: &[],
-        },
+        new_file(names.messages, &folded.sent, &folded.ends),
+        new_file(names.memory, memory, &[]),
     ]
+}
+
+/// A file that is to be written.
+pub(crate) fn new_file<'f>(name: &'f str, bytes: &'f [u8], cuts: &'f [u64]) -> NewFile<'f>
+    ensures { result ≡ record { name = name.entry; bytes = bytes.entry; cuts = cuts.entry } }
+{
+    NewFile { name, bytes, cuts }
 }
 
 /// `turns T entries E messages M records K`, and a line feed: what was folded.

@@ -5,6 +5,7 @@ ghost use Rattle.cmd_steps.specs.Words.{CanWrite, EndsAs, IsTrue, WritesApart, g
 ghost use Rattle.gen_options.specs.{given_of, is_in_range};
 ghost use Rattle.gen_recording.specs.Generated.{config_for, journal_for, trace_for};
 
+use crate::fold::new_file;
 use cmd_files::{NewFile, Stop};
 use cmd_steps::write_work;
 use gen_options::Given;
@@ -47,20 +48,8 @@ fn new_files<'f>(
     ensures files { map output_of result ≡ (gen_work (given_of given.entry)).outputs }
 {
     [
-        NewFile {
-            name: given.config,
-            bytes: config.as_bytes(),
-            cuts: &[],
-        },
-        NewFile {
-            name: given.trace,
-            bytes: trace,
-            cuts: &[],
-        },
-        NewFile {
-            name: given.journal,
-            bytes: journal,
-            cuts: &[],
-        },
+        new_file(given.config, config.as_bytes(), &[]),
+        new_file(given.trace, trace, &[]),
+        new_file(given.journal, journal, &[]),
     ]
 }

@@ -4,6 +4,7 @@ ghost use Rattle.std.specs.Prelude.{◌≡◌};
 ghost use Rattle.cmd_steps.specs.Words.{CanWrite, Cuts, EndsAs, IfOk, IsTrue, WritesApart, finished_end, five_of, length, map, output_of, replay as replay_command, replay_outputs};
 ghost use Rattle.idsm_run.specs.Replayed.{Replayed as HasReplayed};
 
+use crate::fold::new_file;
 use crate::replay_texts::{Texts, print_texts};
 use crate::traces::read_asked;
 use cmd_files::{NewFile, Stop};
@@ -58,20 +59,8 @@ fn new_files<'f>(
         ≡ replay_outputs (five_of names.entry) replayed.now.sent.items memory.now journal.now }
 {
     [
-        NewFile {
-            name: names.messages,
-            bytes: &replayed.sent,
-            cuts: &replayed.ends,
-        },
-        NewFile {
-            name: names.memory,
-            bytes: memory,
-            cuts: &[],
-        },
-        NewFile {
-            name: names.journal,
-            bytes: journal,
-            cuts: &[],
-        },
+        new_file(names.messages, &replayed.sent, &replayed.ends),
+        new_file(names.memory, memory, &[]),
+        new_file(names.journal, journal, &[]),
     ]
 }

@@ -1,7 +1,7 @@
 //! The top calls: from the words of a command to its status.
 
 ghost use Rattle.cmd_steps.specs.Words.{CanRun, IsTrue, Ran, SameBut, Some, are_read_by_clap, asked, command_of, map, plain_of, replay, replay_of, string_bytes, written_in, written_of};
-ghost use Rattle.idsm_run.specs.Performed.{Performs};
+ghost use Rattle.idsm_run.specs.Asked.{Performs};
 ghost use Rattle.idsm_run.specs.Replayed.{Replays};
 
 use crate::check::check;

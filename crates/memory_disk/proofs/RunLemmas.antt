@@ -1,13 +1,15 @@
 -- What calls of a disk leave, at each moment of a run.
-use Rattle.std.proofs.Common.{◌≡◌, ℕ, ◌+◌, ◌≤◌, List, [], ◌∷◌, ◌++◌, length, Ok, Err, Result, refl, sym, subst, ◌∙◌, inl, inr, arith, rules, append_assoc}
+use Rattle.std.proofs.Common.{◌≡◌, ℕ, ◌+◌, ◌≤◌, List, [], ◌∷◌, ◌++◌, length, Ok, Err, Result, refl, sym, subst, ◌∙◌, inl, inr, arith, rules, append_assoc, take, drop, length-append, length-drop}
 use Rattle.std.proofs.lemmas.Grind.{same_number_lists}
 use Rattle.std.proofs.lemmas.Bool.{cases_lt}
-use Rattle.std.proofs.lemmas.List.{append-nil, places}
+use Rattle.std.proofs.lemmas.List.{append-nil, places, nil_from_length, take_all, take-append-le, drop-append-le}
 use Rattle.std.proofs.lemmas.List.Elements.{All-append, All-from_recursion, All-weaker, recursion_from_All}
 use Rattle.std.specs.Prelude.{⊤}
 use Rattle.memory_disk.specs.Disks.{State, Run, IsWritten, ChangesIn, MayBeLeft, LeavesOnly, LeavesSince, Tears, Writes, Syncs, Reads, FailsWith, after, overwritten, span_of, synced, unsynced}
 use Rattle.memory_disk.specs.declared.disk.DiskFailed.{DiskFailed}
 use Rattle.memory_disk.specs.declared.disk.Span.{Span}
+use Rattle.memory_disk.specs.declared.recording.Call.{Call}
+use Rattle.memory_disk.specs.Recorded.{piece_len, pieces_len, replay, state_after}
 
 -- ---- runs, one after the other
 
@@ -96,3 +98,23 @@ pub read_leaves : (P : List ℕ → Type 0) (old new : Run) (at : ℕ) (out : Li
     → Reads old new at out result → LeavesSince old new P
 read_leaves P old new at out (Ok done) before reads = same_call P old new (inr reads.0) before
 read_leaves P old new at out (Err failed) before fails = same_call P old new fails before
+
+-- ---- the run that a record of calls tells, with one more of them
+
+-- a call more, with its piece after the others
+pub replay_push : (run : Run) (calls : List Call) (pieces : List ℕ) (call : Call) (piece : List ℕ)
+    → pieces_len calls ≡ length pieces → piece_len call ≡ length piece
+    → replay run (calls ++ call ∷ []) (pieces ++ piece) ≡ after (replay run calls pieces) (state_after call (replay run calls pieces).now piece)
+replay_push run [] pieces call piece none one = rw (nil_from_length pieces (sym none), take_all (piece_len call) piece (omega arith))
+replay_push run (first ∷ calls) pieces call piece sum one =
+    let n = piece_len first in
+    let rest : pieces_len calls ≡ length (drop n pieces) = omega (arith, sum, length-drop n pieces) in
+    rw (replay, take-append-le n pieces piece (omega arith), drop-append-le n pieces piece (omega arith))
+    (replay_push (after run (state_after first run.now (take n pieces))) calls (drop n pieces) call piece rest one)
+
+-- so long are their pieces
+pub pieces_len_push : (calls : List Call) (call : Call) → pieces_len (calls ++ call ∷ []) ≡ pieces_len calls + piece_len call
+pieces_len_push [] call = omega arith
+pieces_len_push (first ∷ calls) call = omega (arith, pieces_len_push calls call)
+
+pub ruleset one_more = (replay_push, pieces_len_push, length-append)

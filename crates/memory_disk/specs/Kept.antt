@@ -2,8 +2,7 @@
 use Rattle.std.specs.Prelude.{◌≡◌, ◌≤◌, length, vec_len, vec_capacity}
 use Rattle.memory_disk.specs.declared.memory_disk.MemoryDisk.TheInside as disk
 use Rattle.memory_disk.specs.declared.recording.Recording.TheInside as recording
-use Rattle.memory_disk.specs.Recorded.{MemoryView, Recorded, fresh_run}
-use Rattle.memory_disk.specs.Recording.{pieces_len, replay}
+use Rattle.memory_disk.specs.Recorded.{MemoryView, Recorded, fresh_run, pieces_len, replay}
 
 -- what contracts see of a record
 abbrev pub recorded : recording.Inside → Recorded

@@ -2,4 +2,3 @@ pub mod Disks
 pub mod Hosts
 pub mod Kept
 pub mod Recorded
-pub mod Recording

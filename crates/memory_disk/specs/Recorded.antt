@@ -1,8 +1,10 @@
 -- What contracts see of a disk in memory, and what its calls make of that.
-use Rattle.std.specs.Prelude.{◌≡◌, ◌↔◌, ◌⊎◌, ⊤, ℕ, ◌+◌, ◌<◌, ◌≤◌, [], List, Result, Ok, Err, IsOk, is_ok, if◌then◌else◌}
+use Rattle.std.specs.Prelude.{◌≡◌, ◌↔◌, ◌⊎◌, ⊤, ℕ, ◌+◌, ◌<◌, ◌≤◌, [], List, Result, Ok, Err, IsOk, is_ok, if◌then◌else◌, ◌∷◌, length, take, drop}
 use Rattle.ids_outside.specs.{counted, CountsCall, IsToFail, Plan}
-use Rattle.memory_disk.specs.Disks.{Run, State, after, synced}
+use Rattle.memory_disk.specs.Disks.{Run, State, after, synced, overwritten, unsynced}
 use Rattle.memory_disk.specs.declared.disk.DiskFailed.{DiskFailed}
+use Rattle.memory_disk.specs.declared.recording.Call.{Call}
+use Rattle.memory_disk.specs.declared.recording.Call.TheVariants.{Wrote, Tore, Synced, Passed}
 
 -- so many calls, and so many bytes of their pieces
 pub record Amount : Type 0 where
@@ -57,3 +59,36 @@ pub record Follows (old new : MemoryView) (count : ℕ) (served failed : State) 
   pub counts : CountsCall old.plan new.plan
   pub notes : Notes old.recorded new.recorded count served failed result
   pub faults : new.faults ≡ (if is_ok result then old.faults else counted old.faults)
+
+-- how many bytes of the pieces are the call's
+abbrev pub piece_len : Call → ℕ
+piece_len (Wrote span) = span.count
+piece_len call = 0
+
+-- all calls together
+abbrev pub pieces_len : List Call → ℕ
+pieces_len [] = 0
+pieces_len (call ∷ calls) = piece_len call + pieces_len calls
+
+-- where the bytes that a call changes end
+abbrev pub end_of : Call → ℕ
+end_of (Wrote span) = span.at + span.count
+end_of call = 0
+
+-- the call has this piece, and the disk the bytes that it changes
+pub record Takes (call : Call) (piece : List ℕ) : Type 0 where
+  pub whole : piece_len call ≡ length piece
+  pub ends : end_of call ≤ 541728
+
+-- the state after a call of this piece; a write that failed changed no byte
+abbrev pub state_after : Call → State → List ℕ → State
+state_after (Wrote span) state piece = unsynced state span (overwritten span.at piece state.contents)
+state_after (Tore span) state piece = unsynced state span state.contents
+state_after Synced state piece = synced state.contents
+state_after Passed state piece = state
+
+-- the run with these calls, their pieces one after the other
+abbrev pub replay : Run → List Call → List ℕ → Run
+replay run [] pieces = run
+replay run (call ∷ calls) pieces =
+    replay (after run (state_after call run.now (take (piece_len call) pieces))) calls (drop (piece_len call) pieces)

@@ -1,7 +1,7 @@
 //! The bytes of a disk in memory and the ranges that are not yet synced, and what calls and crashes make of them.
 ghost use Rattle.std.specs.Prelude.{◌≡◌, ℕ, ◌+◌, ◌<◌, ◌≤◌, ◌↔◌, length, slice_index, vec_capacity, vec_len, IsTrue};
 ghost use Rattle.memory_disk.specs.Disks.{IsWritten, MayBeLeft};
-ghost use Rattle.memory_disk.specs.Recording.{state_after, Takes};
+ghost use Rattle.memory_disk.specs.Recorded.{state_after, Takes};
 
 use crate::disk::Span;
 use crate::recording::Call;

@@ -3,8 +3,7 @@
 ghost use Rattle.std.specs.Prelude.{◌≡◌, ◌+◌, ◌<◌, ◌≤◌, [], ℕ, length, slice_index, true, IfOk, IsErr};
 ghost use Rattle.ids_outside.specs.Faults.{counted};
 ghost use Rattle.memory_disk.specs.Disks.{overwritten, span_of, synced, unsynced, IsWritten, MayBeLeft, Reads};
-ghost use Rattle.memory_disk.specs.Recorded.{noted, unused_disk, Follows, HasRoom};
-ghost use Rattle.memory_disk.specs.Recording.{state_after, Takes};
+ghost use Rattle.memory_disk.specs.Recorded.{noted, unused_disk, Follows, HasRoom, state_after, Takes};
 
 use crate::contents::{apply, fill_unsynced};
 use crate::disk::{Disk, DiskFailed, Span};

@@ -1,7 +1,6 @@
 //! The record of a disk in memory: the bytes that it was made with, its calls and their pieces.
 ghost use Rattle.std.specs.Prelude.{◌≡◌, ◌+◌, ◌≤◌, ◌↔◌, ◌++◌, length, vec_capacity, vec_len, IfOk, IsTrue};
-ghost use Rattle.memory_disk.specs.Recorded.{blank_record, noted, HasRoom};
-ghost use Rattle.memory_disk.specs.Recording.{piece_len, state_after};
+ghost use Rattle.memory_disk.specs.Recorded.{blank_record, noted, HasRoom, piece_len, state_after};
 
 use crate::disk::Span;
 use ids_types::NoMemory;
@@ -67,7 +66,7 @@ impl Recording {
     }
 
     /// Notes a call of this piece, for which there is room.
-    #[tactic(auto, using(crate::proofs::RecordingLemmas::one_more))]
+    #[tactic(auto, using(crate::proofs::RunLemmas::one_more))]
     pub(crate) fn note(&mut self, call: Call, piece: &[u8])
         requires room { HasRoom self.old (length piece.now) }
         requires whole { piece_len call ≡ length piece.now }

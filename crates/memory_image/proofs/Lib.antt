@@ -1,9 +1,2 @@
-pub mod ChainLemmas
 pub mod ImageLemmas
 pub mod JournalLemmas
-pub mod Names
-pub mod OneLemmas
-pub mod ReadingLemmas
-pub mod RestoreLemmas
-pub mod RowLemmas
-pub mod TickLemmas

@@ -1,3 +1,2 @@
 pub mod Images
 pub mod Reading
-pub mod Restoring

@@ -1,11 +1,14 @@
 -- Reading an image from left to right.
-use Rattle.std.specs.Prelude.{◌≡◌, ◌++◌, ◌^◌, ◌≤◌, ℕ, List, length, Option, Some, None}
+use Rattle.std.specs.Prelude.{◌≡◌, ◌++◌, ◌^◌, ◌≤◌, ℕ, List, length, Option, Some, None, ◌<◌, ◌∷◌, Bool, true, false}
 use Rattle.std.specs.Int.{w16, w64}
 use Rattle.ids_frame.specs.{AreBytes, Read, ◌>>=◌, byte_at, bytes_at, number_at}
 use Rattle.ids_types.specs.MemoryRow.{Row}
 use Rattle.ids_types.specs.declared.names.Stamp.{Stamp}
 use Rattle.memory_image.specs.Images.{Fields, IsKeepable, fields, fields_of, flag_of, number_of, row_bytes}
 use Rattle.memory_image.specs.declared.fields.Fields.{Fields as Lent}
+use Rattle.std.specs.List.{position}
+use Rattle.chain_spec.specs.Memory.{Stored}
+use Rattle.event_memory.specs.Held.{Held, Stands, is_of}
 
 -- fields, their context as bytes
 abbrev pub plain_fields : Lent → Fields
@@ -45,3 +48,23 @@ TellRow f None = (row : Row) → IsKeepable row → f ≡ fields_of row → ⊥
 abbrev pub Begins : List ℕ → Option (Row × List ℕ) → Type 0
 Begins bytes (Some front) = IsKeepable front.0 × (bytes ≡ row_bytes front.0 ++ front.1)
 Begins bytes None = (row : Row) (rest : List ℕ) → IsKeepable row → bytes ≡ row_bytes row ++ rest → ⊥
+
+-- ---- a record that is added to a memory
+
+-- none of the records is of this one's event, and there is room for one more
+pub record HasPlace (memory : Held) (row : Row) : Type 0 where
+  pub alone : position (is_of row.key.event.0) memory.rows ≡ None
+  pub room : length memory.rows < memory.room
+
+-- the record was added as the newest; the memory is again one of items that were stored
+pub record AddsRow (old new : Held) (row : Row) : Type 0 where
+  pub place : HasPlace old row
+  pub room : new.room ≡ old.room
+  pub rows : new.rows ≡ row ∷ old.rows
+  pub items : List Stored
+  pub stands : Stands new items
+
+-- the record was added, or there is no place for it
+abbrev pub Adds : Held → Held → Row → Bool → Type 0
+Adds old new row true = AddsRow old new row
+Adds old new row false = HasPlace old row → ⊥

@@ -1,11 +1,15 @@
-//! The image of a memory, written and read.
-ghost use Rattle.std.specs.Prelude.{◌≡◌, ◌+◌, ◌≤◌, ◌++◌, ℕ, List, length, reverse, vec_capacity, vec_len};
+//! The image of a memory, written and read, and two laws: functions with a law as their contract, and no body.
+ghost use Rattle.std.specs.Prelude.{◌≡◌, ◌+◌, ◌≤◌, ◌++◌, ℕ, List, length, reverse, take, vec_capacity, vec_len};
 ghost use Rattle.std.specs.Bool.{OnTrue, OnFalse};
 ghost use Rattle.chain_spec.specs.Memory.{Stored};
 ghost use Rattle.event_memory.specs.{Stands, no_rows, plain_row};
+ghost use Rattle.filter_chain.specs.History.{rows_of};
+ghost use Rattle.ids_config.specs.Parts.{Parts};
+ghost use Rattle.ids_config.specs.Valid.{IsValid};
 ghost use Rattle.ids_types.specs.MemoryRow.{Row as MemoryRow};
 ghost use Rattle.memory_image.specs.Images.{AreKeepable, IsImageOf, IsKeepable, joined};
-ghost use Rattle.memory_image.specs.Restoring.{Adds};
+ghost use Rattle.memory_image.specs.Reading.{Adds};
+ghost use Rattle.text_spec.specs.{Fits, Told};
 
 use crate::fields::{put_row, row_of};
 use event_memory::{Memory, Row};
@@ -61,9 +65,17 @@ pub fn restore(memory: &mut Memory, image: &[u8]) -> bool
 }
 
 /// Bytes are the image of one list of records at most.
-#[tactic(auto, using(crate::proofs::OneLemmas::one_list))]
+#[tactic(auto, using(crate::proofs::ImageLemmas::one_list))]
 pub fn one_list_for_an_image()
     ensures { (a b : List MemoryRow) (image : List ℕ) → IsImageOf a image → IsImageOf b image → a ≡ b }
+{}
+
+/// The records of the event memory after the first turns of a fitting history, however many turns these are, can
+/// be kept in an image.
+#[tactic(auto, using(crate::proofs::JournalLemmas::rows_kept))]
+pub fn the_records_of_a_history_can_be_kept()
+    ensures { (config : Parts) (told : Told) (k : ℕ) → IsValid config → Fits config told →
+        AreKeepable (rows_of config (take k told.turns)) }
 {}
 
 /// Adds a record as the newest one, and answers true; or there was no room, or one of its event.

@@ -8,7 +8,7 @@
 
 mod fields;
 mod image;
-mod records;
 
-pub use image::{image_len, one_list_for_an_image, put_image, restore};
-pub use records::the_records_of_a_history_can_be_kept;
+pub use image::{
+    image_len, one_list_for_an_image, put_image, restore, the_records_of_a_history_can_be_kept,
+};

@@ -1,5 +1,1 @@
-pub mod FindLemmas
-pub mod Names
-pub mod SaveLemmas
 pub mod SlotLemmas
-pub mod StoreLemmas

@@ -8,11 +8,9 @@
 #![tactic(auto)]
 
 mod place;
-mod records;
 mod slots;
 mod store;
 mod writes;
 
 pub use memory_disk::{Disk, DiskFailed};
-pub use records::Records;
-pub use store::{BeginFault, SaveFault, Store};
+pub use store::{BeginFault, Records, SaveFault, Store};

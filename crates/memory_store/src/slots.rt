@@ -1,8 +1,7 @@
 //! The slots of a disk as they were read, and which of them is kept.
 ghost use Rattle.std.specs.Prelude.{◌≡◌, ◌≤◌, ◌^◌, ◌↔◌, length, reverse, option_map, IsTrue, Option};
 ghost use Rattle.event_memory.specs.Held.{no_rows};
-ghost use Rattle.memory_store.specs.Finding.{IsChosen, Tells, plain_slot, slot_read};
-ghost use Rattle.memory_store.specs.Slots.{Slot as SlotValue};
+ghost use Rattle.memory_store.specs.Slots.{IsChosen, Tells, plain_slot, slot_read, Slot as SlotValue};
 
 use crate::place::Place;
 use event_memory::Memory;

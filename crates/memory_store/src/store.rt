@@ -1,18 +1,18 @@
-//! Beginning with a disk, and saving on it.
+//! Beginning with a disk, saving on it, and the records that were found there.
 
-ghost use Rattle.std.specs.Prelude.{◌≡◌, ◌+◌, ◌≤◌, List, IfOk, IsTrue, OnOk, length, reverse, vec_capacity};
+ghost use Rattle.std.specs.Prelude.{◌≡◌, ◌+◌, ◌<◌, ◌≤◌, List, IfOk, IsTrue, OnOk, length, reverse, slice_index_or, vec_capacity};
+ghost use Rattle.event_memory.specs.{no_row, no_rows, plain_row};
 ghost use Rattle.ids_types.specs.MemoryRow.{Row as MemoryRow};
 ghost use Rattle.memory_disk.specs.Disks.{HasCause, IsSettled, LeavesOnly, LeavesSince, MayBeLeft, bytes_of, part};
 ghost use Rattle.memory_image.specs.Images.{AreKeepable};
 ghost use Rattle.memory_store.specs.Saving.{IsBody, KeepsRowsOr, slot_for};
 ghost use Rattle.memory_store.specs.Slots.{KeepsRows, slot_in};
-ghost use Rattle.memory_store.specs.Stores.{IsRoom};
+ghost use Rattle.text_spec.specs.MemoryText.{memory_text};
 
 use crate::place::Place;
-use crate::records::Records;
 use crate::slots::{LAST_SEQUENCE, find};
 use crate::writes::{SLOT_STEP, put_slot};
-use event_memory::Memory;
+use event_memory::{Memory, Row};
 use ids_types::NoMemory;
 use memory_disk::{Disk, DiskFailed};
 use memory_image::{image_len, put_image};
@@ -24,6 +24,46 @@ const SLOT_LEN: usize = 270_861;
 
 /// How many records an image has at most.
 const MAX_RECORDS: u16 = 256;
+
+/// The records that a disk keeps, from the one stored longest ago on.
+#[derive(Debug, Drop)]
+pub struct Records {
+    pub(crate) memory: Memory,
+}
+
+impl Model for Records {
+    ghost use Rattle.std.specs.Prelude.{List, reverse};
+    ghost use Rattle.ids_types.specs.MemoryRow.{Row as MemoryRow};
+
+    ghost Value = { List MemoryRow };
+
+    ghost view = { λ records. reverse records.memory.rows };
+}
+
+impl Records {
+    /// How many there are.
+    pub fn len(&self) -> u16
+        ensures { result ≡ length self.now }
+    {
+        self.memory.len()
+    }
+
+    /// A record, by its place from 0.
+    pub fn row(&self, i: u16) -> Row<'_>
+        requires { i < length self.now }
+        ensures { plain_row result ≡ slice_index_or self.now i no_row }
+    {
+        self.memory.row(i)
+    }
+
+    /// The text of the records, one line for each.
+    /// Steps: as `event_memory::Memory::print`. Memory: may answer want of memory. By: read off.
+    pub fn print(&self, alloc: Global) -> Result<Vec<u8>, NoMemory>
+        ensures { IfOk result (λ text. text.items ≡ memory_text self.now) }
+    {
+        self.memory.print(alloc)
+    }
+}
 
 /// Why a store could not be begun. The disk is handed back.
 #[derive(Debug)]
@@ -53,11 +93,9 @@ pub struct Store<D: Disk> {
 }
 
 impl<D: Disk> Model for Store<D> {
-    ghost use Rattle.memory_store.specs.Stores.{StoreValue};
+    ghost use Rattle.memory_store.specs.Stores.{StoreValue, IsSound};
 
     ghost Value = { StoreValue D };
-
-    ghost use Rattle.memory_store.specs.Stores.{IsSound};
 
     ghost view = { λ store. record { disk = store.disk; sequence = store.place.sequence } };
 
@@ -83,19 +121,16 @@ impl<D: Disk> Store<D> {
             LeavesSince (D.shows disk).run (D.shows (begun_disk result)).run (MayBeLeft (D.shows disk).run.now) }
     {
         let mut disk = disk;
-        let Ok(mut room) = Room::make(alloc) else {
+        let Ok((mut first, mut second, mut memory)) = make_room(alloc) else {
             return Err(BeginFault::NoMemory(disk));
         };
-        let Ok(()) = read_slots(&mut disk, &mut room.first, &mut room.second) else {
+        let Ok(()) = read_slots(&mut disk, &mut first, &mut second) else {
             return Err(BeginFault::Failed(disk));
         };
-        match find(&room.first, &room.second, &mut room.memory) {
+        match find(&first, &second, &mut memory) {
             Ok(place) => {
-                let body = room.first;
-                let records = Records {
-                    memory: room.memory,
-                };
-                Ok((Store { disk, place, body }, records))
+                let body = first;
+                Ok((Store { disk, place, body }, Records { memory }))
             }
             Err(slot) => Err(BeginFault::Damaged { slot, disk }),
         }
@@ -153,23 +188,14 @@ impl<D: Disk> Store<D> {
 
 /// The memory that a store needs: the bytes of both slots, of which one is then kept for the body of a save, and
 /// the records that are read.
-#[derive(Drop)]
-struct Room {
-    first: Vec<u8>,
-    second: Vec<u8>,
-    memory: Memory,
-}
-
-impl Room {
-    fn make(alloc: Global) -> Result<Room, NoMemory>
-        ensures { IfOk result IsRoom }
-    {
-        Ok(Room {
-            first: vec![in alloc; 0; SLOT_LEN]?,
-            second: vec![in alloc; 0; SLOT_LEN]?,
-            memory: Memory::make(alloc, MAX_RECORDS)?,
-        })
-    }
+fn make_room(alloc: Global) -> Result<(Vec<u8>, Vec<u8>, Memory), NoMemory>
+    ensures { IfOk result (λ room. (length room.0.items ≡ 270861) × (length room.1.items ≡ 270861) × (room.2 ≡ no_rows 256)) }
+{
+    Ok((
+        vec![in alloc; 0; SLOT_LEN]?,
+        vec![in alloc; 0; SLOT_LEN]?,
+        Memory::make(alloc, MAX_RECORDS)?,
+    ))
 }
 
 /// Syncs the disk, and reads both slots.
@@ -192,7 +218,7 @@ fn read_slots<D: Disk>(disk: &mut D, first: &mut [u8], second: &mut [u8]) -> Res
 }
 
 /// Puts the body of a save in place of the bytes.
-#[tactic(auto, using(crate::proofs::StoreLemmas::encoding))]
+#[tactic(auto, using(crate::proofs::SlotLemmas::encoding))]
 fn encode(body: &mut Vec<u8>, sequence: u64, memory: &Memory)
     requires keepable { AreKeepable (reverse memory.now.rows) }
     requires room { 270860 ≤ vec_capacity body.old }

@@ -30,16 +30,16 @@ returns-in-Ok-end-clause-ends g c =
 pub returns-clause-ends : goal.returns-clause-ends
 returns-clause-ends g c =
     rw c.ended_with-in-Err-end.ensures (kept_in_part (keep_files_of c.args.names) _ _ _ c.in-Ok.ensures.reads c.in-Err-end.stop
-    (rw c.in-Err-end.is at c.keep_history-disk.ensures.stops))
+    (rw c.in-Err-end.is at c.save_history-disk.ensures.stops))
 
 pub returns-in-Ok-end-clause-leaves : goal.returns-in-Ok-end-clause-leaves
 returns-in-Ok-end-clause-leaves g c told shown own found =
     rw c.ended_with-in-Ok-end.ensures (leaves_own (keep_files_of c.args.names) _ _ _ c.in-Ok.ensures.reads (g.D.Disk.shows c.args.disk)
-    (g.D.Disk.shows c.keep_history-disk.result.disk) told own found _ _ (λ synced keeping state kept. kept)
-    (rw c.in-Ok-end.is at (c.keep_history-disk.ensures.leaves shown)))
+    (g.D.Disk.shows c.save_history-disk.result.disk) told own found _ _ (λ synced keeping state kept. kept)
+    (rw c.in-Ok-end.is at (c.save_history-disk.ensures.leaves shown)))
 
 pub returns-clause-leaves : goal.returns-clause-leaves
 returns-clause-leaves g c told shown own found =
     rw c.ended_with-in-Err-end.ensures (leaves_own (keep_files_of c.args.names) _ _ _ c.in-Ok.ensures.reads (g.D.Disk.shows c.args.disk)
-    (g.D.Disk.shows c.keep_history-disk.result.disk) told own found _ _ (plain_kept c.in-Err-end.stop)
-    (rw c.in-Err-end.is at (c.keep_history-disk.ensures.leaves shown)))
+    (g.D.Disk.shows c.save_history-disk.result.disk) told own found _ _ (plain_kept c.in-Err-end.stop)
+    (rw c.in-Err-end.is at (c.save_history-disk.ensures.leaves shown)))

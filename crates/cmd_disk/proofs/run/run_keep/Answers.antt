@@ -1,6 +1,6 @@
 use Rattle.cmd_disk.proofs.Names.{plain_end, ended_others}
 use Rattle.cmd_steps.proofs.Names.{ap, disk_of, keep, keep_files_of, pair_of, recall}
-use Rattle.cmd_disk.proofs.RunLemmas.{told_end}
+use Rattle.cmd_disk.proofs.EndLemmas.{told_end}
 use Rattle.cmd_disk.proofs.run.run_keep.Goals as goal
 
 pub returns-in-Ok-Some-Keep-clause-ran : goal.returns-in-Ok-Some-Keep-clause-ran

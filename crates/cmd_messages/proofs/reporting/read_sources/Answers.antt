@@ -1,6 +1,28 @@
-use Rattle.cmd_steps.proofs.Names.{List, MessageParts, Ok, [], arith, drop, drop_all, goes_on, left_reading, map, read_none, rules, small_more, sources_in, stops_early, string_bytes, ◌++◌, ◌+◌, ◌∷◌}
-use Rattle.cmd_messages.proofs.ReportLemmas.{apart_with, next_named}
+use Rattle.cmd_steps.proofs.Names.{AreApart, List, MessageParts, Ok, Sources, [], apart_more, arith, clashes, drop, drop_all, drop_more, false, get_or, goes_on, instance_of, is_of, left_reading, length, list_any, map, read_none, rules, small_more, source_at, sources_in, stops_early, string_bytes, suc, zero, ℕ, ◌++◌, ◌+◌, ◌<◌, ◌∷◌, ◌≡◌}
+use Rattle.ids_reporter.specs.declared.index.Instance.TheVariants.{One}
 use Rattle.cmd_messages.proofs.reporting.read_sources.Goals as goal
+
+-- ---- sources that do not clash
+
+none_of : (sources : Sources) (i s : ℕ) → list_any (λ source. is_of i (instance_of source)) sources ≡ false
+    → instance_of (source_at sources s) ≡ One i → ⊥
+none_of [] i s none one = absurd (cc one)
+none_of (source ∷ sources) i zero none one = grind (arith, none, one)
+none_of (source ∷ sources) i (suc s) none one = none_of sources i s (grind (arith, none)) one
+
+apart_with : (sources : Sources) (messages : List MessageParts) → AreApart sources
+    → clashes sources (instance_of messages) ≡ false → AreApart (sources ++ messages ∷ [])
+apart_with sources messages apart fits =
+    apart_more sources messages apart (grind (arith, fits)) (λ s i one own. none_of sources i s (rw own at fits) one)
+
+-- ---- names
+
+-- the next of the names that are left
+next_named : {A : Type 0} (f : A → List ℕ) (items : List A) (i : ℕ) (item : A) (name : List ℕ) → i < length items
+    → item ≡ get_or items i item → name ≡ f item → map f (drop i items) ≡ name ∷ map f (drop (i + 1) items)
+next_named f items i item name within at is = grind (arith, drop_more items i item within, at, is)
+
+-- ---- the answers
 
 pub returns-in_err-source-clause-reads : goal.returns-in_err-source-clause-reads
 returns-in_err-source-clause-reads g c =

@@ -1,5 +1,4 @@
-use Rattle.memory_image.proofs.Names.{[], ◌∷◌, length, to_be_bytes, w16, w64, flag_of, number_of}
-use Rattle.memory_image.proofs.ImageLemmas.{appended}
+use Rattle.memory_image.proofs.ImageLemmas.{[], ◌∷◌, length, to_be_bytes, w16, w64, flag_of, number_of, appended}
 use Rattle.memory_image.proofs.fields.put_row.Goals as goal
 
 pub returns-clause-items : goal.returns-clause-items

@@ -1,6 +1,5 @@
-use Rattle.memory_image.proofs.Names.{◌≡◌, ◌++◌, None, rules, sym, ap, ◌∙◌, one_answer, fields_bytes, fields_at, plain_fields}
+use Rattle.memory_image.proofs.ImageLemmas.{◌≡◌, ◌++◌, None, rules, sym, ap, ◌∙◌, one_answer, fields_bytes, fields_at, plain_fields, fields_again, fields_are_part}
 use Rattle.ids_frame.proofs.DecodeLemmas.{are_bytes}
-use Rattle.memory_image.proofs.ReadingLemmas.{fields_again, fields_are_part}
 use Rattle.memory_image.proofs.fields.row_of.Goals as goal
 
 pub returns-in_err-fields : goal.returns-in_err-fields

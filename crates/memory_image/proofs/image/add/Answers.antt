@@ -1,5 +1,4 @@
-use Rattle.memory_image.proofs.Names.{◌≤◌, ◌∷◌, refl, ◌∙◌, arith, stored, plain_row}
-use Rattle.memory_image.proofs.RestoreLemmas.{begins, had_place, record_made, stored_rows}
+use Rattle.memory_image.proofs.ImageLemmas.{◌≤◌, ◌∷◌, refl, ◌∙◌, arith, stored, plain_row, begins, had_place, record_made, stored_rows}
 use Rattle.memory_image.proofs.image.add.Goals as goal
 
 pub returns-then-len-before : goal.returns-then-len-before

@@ -1,6 +1,4 @@
-use Rattle.memory_image.proofs.Names.{reverse, arith, no_row, row_bytes, length-flat_map-take}
-use Rattle.memory_image.proofs.ImageLemmas.{length-all}
-use Rattle.std.proofs.lemmas.Grind.{common_steps}
+use Rattle.memory_image.proofs.ImageLemmas.{common_steps, reverse, arith, no_row, row_bytes, length-flat_map-take, length-all}
 use Rattle.memory_image.proofs.image.image_len.Goals as goal
 
 pub overflow_add-len-in-loop-i : goal.overflow_add-len-in-loop-i

@@ -1,4 +1,4 @@
-use Rattle.memory_image.proofs.Names.{◌≡◌, length, reverse, take, joined}
+use Rattle.memory_image.proofs.ImageLemmas.{◌≡◌, length, reverse, take, joined}
 use Rattle.memory_image.proofs.image.image_len.Given as goal
 
 -- the bytes of the records so far

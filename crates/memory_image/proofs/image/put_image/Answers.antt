@@ -1,5 +1,4 @@
-use Rattle.memory_image.proofs.Names.{reverse, arith, no_row, row_bytes, length-flat_map-take}
-use Rattle.std.proofs.lemmas.Grind.{common_steps}
+use Rattle.memory_image.proofs.ImageLemmas.{common_steps, reverse, arith, no_row, row_bytes, length-flat_map-take}
 use Rattle.memory_image.proofs.image.put_image.Goals as goal
 
 pub put_row-requires-clause-room : goal.put_row-requires-clause-room

@@ -1,4 +1,4 @@
-use Rattle.memory_image.proofs.Names.{◌≡◌, ◌≤◌, ◌++◌, reverse, take, vec_capacity, joined}
+use Rattle.memory_image.proofs.ImageLemmas.{◌≡◌, ◌≤◌, ◌++◌, reverse, take, vec_capacity, joined}
 use Rattle.memory_image.proofs.image.put_image.Given as goal
 
 -- the records so far are after what was there

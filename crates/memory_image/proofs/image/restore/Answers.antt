@@ -1,6 +1,4 @@
-use Rattle.memory_image.proofs.Names.{◌≡◌, ◌++◌, ◌∷◌, [], reverse, sym, ap, subst, ◌∙◌, rules, arith, nat_tests, append-nil, append_assoc, All, Row, Differ, IsKeepable, All-head, All-push, all_pairs_push, length-reverse, length-append, nil_from_length, reverse-append, List, plain_row, AreKeepable, joined}
-use Rattle.memory_image.proofs.RestoreLemmas.{alone, apart, goes_on, read_more}
-use Rattle.std.proofs.lemmas.Grind.{common_steps}
+use Rattle.memory_image.proofs.ImageLemmas.{◌≡◌, ◌++◌, ◌∷◌, [], reverse, sym, ap, subst, ◌∙◌, rules, arith, nat_tests, append-nil, append_assoc, All, Row, Differ, IsKeepable, All-head, All-push, all_pairs_push, length-reverse, length-append, nil_from_length, reverse-append, List, plain_row, AreKeepable, joined, common_steps, alone, apart, goes_on, read_more}
 use Rattle.memory_image.proofs.image.restore.Goals as goal
 
 pub returns-in_default-clause-none : goal.returns-in_default-clause-none

@@ -1,4 +1,4 @@
-use Rattle.memory_image.proofs.Names.{◌≡◌, ◌++◌, List, length, reverse, Stored, Stands, AreKeepable, joined}
+use Rattle.memory_image.proofs.ImageLemmas.{◌≡◌, ◌++◌, List, length, reverse, Stored, Stands, AreKeepable, joined}
 use Rattle.memory_image.proofs.image.restore.Given as goal
 
 -- the image is that of the records so far, and the rest

@@ -1,4 +1,4 @@
-use Rattle.memory_store.proofs.Names.{subst, arith, KeptIs}
+use Rattle.memory_store.proofs.SlotLemmas.{subst, arith, KeptIs}
 use Rattle.memory_store.proofs.slots.take.Goals as goal
 use Rattle.memory_store.proofs.slots.take.Goals.{then-not-is_whole-via-then-not-is_whole, then-not-is_whole-via-else-not-is_whole+then-not-restore}
 

@@ -1,5 +1,4 @@
-use Rattle.memory_store.proofs.Names.{Result, ⊤, DiskFailed, OnOk, Ok, Err, ◌≡◌, length, ap₂, part, sym, ap, subst, ◌∙◌, arith, IsTrue, Run, bytes_of, goes_on_with, read_leaves}
-use Rattle.memory_store.proofs.StoreLemmas.{read_gives, synced_read}
+use Rattle.memory_store.proofs.SlotLemmas.{Result, ⊤, DiskFailed, OnOk, Ok, Err, ◌≡◌, length, ap₂, part, sym, ap, subst, ◌∙◌, arith, IsTrue, Run, bytes_of, goes_on_with, read_leaves, read_gives, synced_read}
 use Rattle.memory_store.proofs.store.read_slots.Goals as goal
 
 pub returns-in_err-read-clause-any_moment : goal.returns-in_err-read-clause-any_moment

@@ -1,6 +1,4 @@
-use Rattle.memory_store.proofs.Names.{bytes_of, goes_on_with, weaker}
-use Rattle.memory_store.proofs.SaveLemmas.{body_done, body_leaves, open_done, open_step}
-use Rattle.std.proofs.lemmas.Result.{on_ok_weaker}
+use Rattle.memory_store.proofs.SlotLemmas.{on_ok_weaker, bytes_of, goes_on_with, weaker, body_done, body_leaves, open_done, open_step}
 use Rattle.memory_store.proofs.writes.put_slot.Goals as goal
 
 pub returns-in_err-write_through-clause-any_moment : goal.returns-in_err-write_through-clause-any_moment

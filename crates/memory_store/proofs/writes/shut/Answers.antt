@@ -1,7 +1,4 @@
-use Rattle.memory_store.proofs.Names.{◌≡◌, true, refl, ◌∙◌, rules, arith, ChangesIn, KeepsSlot, bytes_of, no_call, settled_leaves, weaker}
-use Rattle.memory_store.proofs.SaveLemmas.{gate_done}
-use Rattle.memory_store.proofs.SlotLemmas.{gate_span, shutting_keeps}
-use Rattle.std.proofs.lemmas.Result.{on_ok_weaker}
+use Rattle.memory_store.proofs.SlotLemmas.{on_ok_weaker, ◌≡◌, true, refl, ◌∙◌, rules, arith, ChangesIn, KeepsSlot, bytes_of, no_call, settled_leaves, weaker, gate_done, gate_span, shutting_keeps}
 use Rattle.memory_store.proofs.writes.shut.Goals as goal
 
 pub returns-then-not-place-clause-any_moment : goal.returns-then-not-place-clause-any_moment

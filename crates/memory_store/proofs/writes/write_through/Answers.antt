@@ -1,4 +1,4 @@
-use Rattle.memory_store.proofs.Names.{arith, goes_on_with, sync_leaves, write_leaves}
+use Rattle.memory_store.proofs.SlotLemmas.{arith, goes_on_with, sync_leaves, write_leaves}
 use Rattle.memory_store.proofs.writes.write_through.Goals as goal
 
 pub returns-clause-any_moment : goal.returns-clause-any_moment

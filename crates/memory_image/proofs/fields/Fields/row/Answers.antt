@@ -1,5 +1,4 @@
-use Rattle.memory_image.proofs.Names.{refl, rules, arith}
-use Rattle.std.proofs.lemmas.Grind.{common_steps}
+use Rattle.memory_image.proofs.ImageLemmas.{refl, rules, arith, common_steps}
 use Rattle.memory_image.proofs.fields.Fields.row.Goals as goal
 
 pub returns : goal.returns

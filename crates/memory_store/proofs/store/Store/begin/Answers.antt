@@ -1,5 +1,4 @@
-use Rattle.memory_store.proofs.Names.{Err, reverse, subst, rules, arith, common_steps, IsTrue}
-use Rattle.memory_store.proofs.FindLemmas.{found_on, tells_on}
+use Rattle.memory_store.proofs.SlotLemmas.{Err, reverse, subst, rules, arith, common_steps, IsTrue, found_on, tells_on}
 use Rattle.memory_store.proofs.store.Store.begin.Goals as goal
 
 pub invariant_of-result : goal.invariant_of-result

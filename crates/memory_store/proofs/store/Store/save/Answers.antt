@@ -1,6 +1,4 @@
-use Rattle.memory_store.proofs.Names.{reverse, inl, ap, subst, ◌∙◌, arith, IsTrue, bytes_of, no_call, settled_leaves, slot_in}
-use Rattle.memory_store.proofs.StoreLemmas.{either_rows, keeps_saved, place_after}
-use Rattle.memory_store.proofs.SaveLemmas.{saved_kept}
+use Rattle.memory_store.proofs.SlotLemmas.{reverse, inl, ap, subst, ◌∙◌, arith, IsTrue, bytes_of, no_call, settled_leaves, slot_in, either_rows, keeps_saved, place_after, saved_kept}
 use Rattle.memory_store.proofs.store.Store.save.Goals as goal
 
 pub returns-then-self-eq-LAST_SEQUENCE-clause-any_moment : goal.returns-then-self-eq-LAST_SEQUENCE-clause-any_moment
