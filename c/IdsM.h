@@ -6,6 +6,8 @@
    and where the main function is called, besides
      IDSM_TICK()                  the tick, which never falls;
      IDSM_SEND(message, length)   takes a message of a turn.
+   Who wants the lines of each turn for a journal defines IDSM_JOURNAL as 1, and calls idsm_journal after each turn. Then
+   idsm_stop, idsm_last_send and idsm_free stand in the place of IdsM_DeInit, which frees the lines of its last turn.
    One file defines IdsM_UnitType IdsM_Unit, as a global variable, so that it begins as zeros. */
 #ifndef IDSM_AUTOSAR_H
 #define IDSM_AUTOSAR_H
@@ -44,6 +46,9 @@ typedef struct {
 } IdsM_VersionInfoType;
 #define IDSM_VERSION_INFO_TYPE IdsM_VersionInfoType
 #endif
+#ifndef IDSM_JOURNAL
+#define IDSM_JOURNAL 0
+#endif
 #ifndef IDSM_VENDOR_ID
 #define IDSM_VENDOR_ID 0
 #endif
@@ -77,8 +82,8 @@ static inline IdsM_ReturnType IdsM_Init(const IdsM_ConfigType *config)
         return IDSM_OUT_OF_RANGE;
     if (config == NULL)
         config = &made;
-    return idsm_init_within(config->bytes, config->count, IdsM_Unit.callers, IDSM_CFG_CALLERS, &IdsM_Unit.manager,
-                            sizeof IdsM_Unit.messages, &IdsM_Unit.fault);
+    const idsm_setup setup = {config->bytes, config->count, sizeof IdsM_Unit.messages, IDSM_JOURNAL};
+    return idsm_init_with(&setup, IdsM_Unit.callers, IDSM_CFG_CALLERS, &IdsM_Unit.manager, &IdsM_Unit.fault);
 }
 
 static inline IdsM_ReturnType IdsM_GetVersionInfo(IDSM_VERSION_INFO_TYPE *info)

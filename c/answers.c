@@ -1,7 +1,8 @@
 /* Each number of idsm_c.h, each field of its structs, each call and each mode, as the library has them, against values
    worked out by hand. It is C and C++. With STAND_IN it is for c/stand_in.c, which has no filters and no memory; with
    WITHOUT_LIMITS it leaves out the want of memory, since a sanitizer runs under no such limit.
-   IDSM_SPENT would take 2^40 calls, and IDSM_BUSY another thread: c/passing.c has them. */
+   IDSM_SPENT would take 2^40 calls, IDSM_BUSY another thread, and IDSM_SMALL_BUFFER of idsm_journal a turn that claims a
+   buffer twice: c/passing.c has them. */
 #define _DEFAULT_SOURCE /* for MAP_ANONYMOUS */
 #include <stddef.h>
 #include <stdio.h>
@@ -96,23 +97,38 @@ static void numbers(void)
     expect("IDSM_MOST_MESSAGE", 1044, IDSM_MOST_MESSAGE);
     expect("a caller", 16, sizeof(idsm_caller));
     expect("whether it is stopped", 8, offsetof(idsm_caller, stopped));
-    expect("a manager", 64, sizeof(idsm_manager));
+    expect("a manager", 32, sizeof(idsm_manager));
     expect("whether it is stopped", 8, offsetof(idsm_manager, stopped));
+    expect("a manager's callers", 16, offsetof(idsm_manager, callers));
+    expect("their number", 24, offsetof(idsm_manager, count));
+    expect("a setup", 32, sizeof(idsm_setup));
+    expect("its bytes", 8, offsetof(idsm_setup, bytes));
+    expect("its room", 16, offsetof(idsm_setup, room));
+    expect("its journal", 24, offsetof(idsm_setup, journal));
     expect("a fault", 12, sizeof(idsm_fault));
     expect("its part", 4, offsetof(idsm_fault, part));
     expect("its place", 8, offsetof(idsm_fault, place));
-    expect("sent", 40, sizeof(idsm_sent));
-    expect("entries", 8, offsetof(idsm_sent, entries));
-    expect("lost_events", 16, offsetof(idsm_sent, lost_events));
-    expect("lost_contexts", 24, offsetof(idsm_sent, lost_contexts));
-    expect("messages", 32, offsetof(idsm_sent, messages));
+    expect("sent", 56, sizeof(idsm_sent));
+    expect("turn", 0, offsetof(idsm_sent, turn));
+    expect("bytes", 8, offsetof(idsm_sent, bytes));
+    expect("entries", 16, offsetof(idsm_sent, entries));
+    expect("lost_events", 24, offsetof(idsm_sent, lost_events));
+    expect("lost_contexts", 32, offsetof(idsm_sent, lost_contexts));
+    expect("messages", 40, offsetof(idsm_sent, messages));
+    expect("quiet", 48, offsetof(idsm_sent, quiet));
+    expect("a status", 64, sizeof(idsm_status));
+    expect("its tick", 8, offsetof(idsm_status, tick));
+    expect("its entries", 16, offsetof(idsm_status, entries));
+    expect("its lost_events", 24, offsetof(idsm_status, lost_events));
+    expect("its lost_contexts", 32, offsetof(idsm_status, lost_contexts));
+    expect("its messages", 40, offsetof(idsm_status, messages));
+    expect("its limited", 48, offsetof(idsm_status, limited));
+    expect("its records", 56, offsetof(idsm_status, records));
+    expect("its state", 60, offsetof(idsm_status, state));
     expect("totals", 32, sizeof(idsm_totals));
     expect("lost events of all", 8, offsetof(idsm_totals, lost_events));
     expect("lost contexts of all", 16, offsetof(idsm_totals, lost_contexts));
     expect("messages of all", 24, offsetof(idsm_totals, messages));
-    expect("a manager's callers", 16, offsetof(idsm_manager, callers));
-    expect("their number", 24, offsetof(idsm_manager, count));
-    expect("a manager's totals", 32, offsetof(idsm_manager, totals));
     expect("a row", 40, sizeof(idsm_row));
     expect("last", 8, offsetof(idsm_row, last));
     expect("stamp", 16, offsetof(idsm_row, stamp));
@@ -133,7 +149,9 @@ static void made_header(void)
     expect("IDSM_CFG_EVENTS", 5, IDSM_CFG_EVENTS);
     expect("IDSM_CFG_RING", 4, IDSM_CFG_RING);
     expect("IDSM_CFG_BUFFER", 300, IDSM_CFG_BUFFER);
-    expect("IDSM_CFG_MEMORY", 7202, IDSM_CFG_MEMORY);
+    expect("IDSM_CFG_MEMORY", 7322, IDSM_CFG_MEMORY);
+    /* 67 + 4 (52 + 15) + 2 * 2 * 8. */
+    expect("IDSM_CFG_JOURNAL", 355, IDSM_CFG_JOURNAL);
     expect("IDSM_EVENT_42", 42, IDSM_EVENT_42);
     expect("IDSM_EVENT_BAD_LOGIN", 4100, IDSM_EVENT_BAD_LOGIN);
     expect("the place of 42", 0, idsm_cfg_place(42));
@@ -280,6 +298,7 @@ static void reports(void)
     expect("sent.messages", 3, IdsM_Unit.sent.messages);
     expect("sent.bytes", 24, IdsM_Unit.sent.bytes);
     expect("sent.entries", 3, IdsM_Unit.sent.entries);
+    expect("sent.turn", 8, IdsM_Unit.sent.turn);
 }
 
 static void refused_reports(void)
@@ -317,7 +336,7 @@ static void refused_turns(void)
 {
     static uint8_t buffer[300];
     idsm_manager *manager = &IdsM_Unit.manager;
-    idsm_manager other = {NULL, 0, NULL, 0, {0, 0, 0, 0}};
+    idsm_manager other = {NULL, 0, NULL, 0};
     idsm_sent sent;
     idsm_totals totals;
     expect("a tick back", 8, idsm_main(manager, 1, buffer, sizeof buffer, &sent));
@@ -332,7 +351,7 @@ static void refused_turns(void)
     expect("NULL as totals", 15, idsm_close(manager, tick, buffer, sizeof buffer, &sent, NULL));
     expect("NULL as a close's sent", 15, idsm_close(manager, tick, buffer, sizeof buffer, NULL, &totals));
     expect("a close of NULL", 15, idsm_close(NULL, tick, buffer, sizeof buffer, &sent, &totals));
-    expect("what a refusal sent", 0, sent.bytes + sent.entries + sent.lost_events + sent.lost_contexts + sent.messages);
+    expect("what a refusal sent", 0, sent.bytes + sent.entries + sent.lost_events + sent.lost_contexts + sent.messages + sent.turn);
     other.at = IdsM_Unit.callers[0].at;
     expect("a caller's turn", 2, idsm_main(&other, tick, buffer, sizeof buffer, &sent));
     expect("a caller's close", 2, idsm_close(&other, tick, buffer, sizeof buffer, &sent, &totals));
@@ -492,6 +511,235 @@ static void memory(void)
 #endif
 }
 
+/* What a status tells, with the tick of the last turn, and nothing held back. */
+static void expect_status(const char *what, idsm_manager *manager, uint64_t turns, uint64_t entries, uint64_t lost_events,
+                          uint64_t lost_contexts, uint64_t messages, uint64_t records, uint64_t state)
+{
+    idsm_status status;
+    expect(what, 0, idsm_read_status(manager, &status));
+    expect(what, turns, status.turns);
+    expect(what, turns == 0 ? 0 : tick, status.tick);
+    expect(what, entries, status.entries);
+    expect(what, lost_events, status.lost_events);
+    expect(what, lost_contexts, status.lost_contexts);
+    expect(what, messages, status.messages);
+    expect(what, 0, status.limited);
+    expect(what, records, status.records);
+    expect(what, state, status.state);
+}
+
+static void expect_mode(const char *what, idsm_manager *manager, uint16_t event, uint64_t wanted)
+{
+    uint8_t mode = 9;
+    expect(what, 0, idsm_mode(manager, event, &mode));
+    expect(what, wanted, mode);
+}
+
+static void expect_calls(const char *what, idsm_caller *caller, uint64_t wanted)
+{
+    uint64_t calls = 99;
+    expect(what, 0, idsm_calls(caller, &calls));
+    expect(what, wanted, calls);
+}
+
+/* The lines of the last turn, in pieces of 1 and of 7 bytes and in one, with nothing written after a piece. */
+static void expect_lines(const char *what, idsm_manager *manager, const char *wanted)
+{
+    static const size_t pieces[] = {1, 7, 400};
+    for (unsigned i = 0; i < 3; i++) {
+        uint8_t text[400], piece[401];
+        size_t at = 0, bytes;
+        do {
+            memset(piece, 0xee, sizeof piece);
+            expect(what, 0, idsm_journal(manager, at, piece, pieces[i], &bytes));
+            memcpy(text + at, piece, bytes);
+            at += bytes;
+            expect(what, 0xee, piece[bytes]);
+        } while (bytes == pieces[i]);
+        expect(what, strlen(wanted), at);
+        expect(what, 0, at == strlen(wanted) ? (uint64_t)(memcmp(text, wanted, at) != 0) : 1);
+    }
+}
+
+/* What is refused of all that reads a manager and a caller, and what it then tells. */
+static void expect_no_reading(const char *what, uint8_t answer, idsm_manager *manager, idsm_caller *caller)
+{
+    idsm_status status = {9, 9, 9, 9, 9, 9, 9, 9, 9};
+    uint8_t mode = 9, text[4];
+    uint64_t calls = 9;
+    size_t bytes = 9;
+    expect(what, answer, idsm_read_status(manager, &status));
+    expect(what, 0, status.turns + status.tick + status.entries + status.lost_events + status.lost_contexts +
+           status.messages + status.limited + status.records + status.state);
+    expect(what, answer, idsm_mode(manager, 0, &mode));
+    expect(what, 0, mode);
+    expect(what, answer, idsm_journal(manager, 0, text, sizeof text, &bytes));
+    expect(what, 0, bytes);
+    expect(what, answer, idsm_calls(caller, &calls));
+    expect(what, 0, calls);
+}
+
+/* What is refused of the readings of a manager without a journal, and of its first caller. */
+static void refused_readings(idsm_manager *manager, idsm_caller *caller)
+{
+    idsm_manager other = {NULL, 0, NULL, 0};
+    uint8_t mode = 9, text[4];
+    size_t bytes = 9;
+    expect_no_reading("a reading of NULL", 15, NULL, NULL);
+    expect_no_reading("a reading of zeros", 1, &other, (idsm_caller *)(void *)&other);
+    other.at = caller->at;
+    expect_no_reading("a reading in another role", 2, &other, (idsm_caller *)(void *)manager);
+    expect("NULL as status", 15, idsm_read_status(manager, NULL));
+    expect("NULL as mode", 15, idsm_mode(manager, 0, NULL));
+    expect("NULL as calls", 15, idsm_calls(caller, NULL));
+    expect("NULL as a journal's bytes", 15, idsm_journal(manager, 0, text, sizeof text, NULL));
+    expect("NULL as a journal's buffer", 15, idsm_journal(manager, 0, NULL, 1, &bytes));
+    expect("a mode of no event", 10, idsm_mode(manager, 5, &mode));
+    expect("that mode", 0, mode);
+    expect("no journal", 10, idsm_journal(manager, 0, text, sizeof text, &bytes));
+    expect("its bytes", 0, bytes);
+}
+
+static void setups(idsm_caller *callers, idsm_manager *manager)
+{
+    idsm_setup setup = {IDSM_CFG_BYTES, sizeof IDSM_CFG_BYTES, 299, 1}, none = {NULL, 0, 0, 0};
+    idsm_fault fault;
+    expect("a setup at NULL", 15, idsm_init_with(NULL, callers, 2, manager, &fault));
+    expect("a setup of nothing", 12, idsm_init_with(&none, callers, 2, manager, &fault));
+    none.bytes = 1;
+    expect("a setup with its configuration at NULL", 15, idsm_init_with(&none, callers, 2, manager, &fault));
+    expect("a setup with little room", 13, idsm_init_with(&setup, callers, 2, manager, &fault));
+    setup.room = 0;
+    expect("a setup with a caller too many", 10, idsm_init_with(&setup, callers, 3, manager, &fault));
+    setup.room = 300;
+    expect("a setup", 0, idsm_init_with(&setup, callers, 2, manager, &fault));
+    expect("a setup again", 14, idsm_init_with(&setup, callers, 2, manager, &fault));
+}
+
+/* Two turns of a manager with a journal, each with as many calls as there are event buffers: of ids 4100 and 9. The second
+   one wants three buffers of two, which the stand-in has. */
+#ifdef STAND_IN
+enum { TOLD = 2, TOLD_THEN = 6, STORED = 0, WITHOUT = 1 };
+static const char SECOND[] = "T 9 0 1 0\nR 0 3 1 1 - !\nR 0 4 1 2 - 0:1:a1b2000000000000\nR 1 2 1 1 - 0:2:a1\n"
+                             "R 0 5 1 1 - 0:3:a1b2\n";
+#else
+enum { TOLD = 3, TOLD_THEN = 3, STORED = 1, WITHOUT = 2 };
+static const char SECOND[] = "T 9 0 2 0\nR 0 3 1 1 - !\nR 0 4 1 2 - 0:1:a1b2000000000000\nR 1 2 1 1 - 0:2:a1\n"
+                             "R 0 5 1 1 - !3\n";
+#endif
+
+static void first_turn(idsm_caller *callers, idsm_manager *manager, uint8_t *buffer)
+{
+    idsm_sent sent;
+    expect("a stamped report", 0, idsm_set_event_at(&callers[0], 1, 3, STAMP, CONTEXT, 2));
+    expect("a state", 0, idsm_set_state(&callers[1], 3));
+    expect("a mode", 0, idsm_set_mode(&callers[1], 0, IDSM_MODE_BRIEF_BYPASSING));
+    expect("a report", 0, idsm_set_event(&callers[0], 4));
+    expect("a lost report", 3, idsm_set_event(&callers[0], 1));
+    expect("a report of no event", 5, idsm_set_event(&callers[0], 5));
+    expect_calls("calls", &callers[0], 3);
+    expect_calls("calls of the other", &callers[1], 2);
+    expect_mode("a mode before its turn", manager, 0, IDSM_MODE_DETAILED);
+    expect_status("nothing", manager, 0, 0, 0, 0, 0, 0, 0);
+    expect_lines("no lines", manager, "");
+    tick = 7;
+    expect("the first turn", 0, idsm_main(manager, tick, buffer, 300, &sent));
+    expect("its number", 0, sent.turn);
+    expect_mode("a mode after its turn", manager, 0, IDSM_MODE_BRIEF_BYPASSING);
+    expect_mode("an internal event's mode", manager, 2, IDSM_MODE_DETAILED);
+    expect_status("one turn", manager, 1, 4, 1, 0, TOLD, STORED, 3);
+    expect_lines("its lines", manager, "T 7 1 0 0\nR 0 0 1 3 8000000100000a00 0:0:a1b2\nC 1 0 S 3\n"
+                                       "C 1 1 M 0 BRIEF_BYPASSING_FILTERS\nR 0 1 4 1 - -\n");
+}
+
+static void second_turn(idsm_caller *callers, idsm_manager *manager, uint8_t *buffer)
+{
+    idsm_sent sent;
+    uint8_t text[9];
+    size_t bytes = 9;
+    expect("a long context", 4, idsm_set_event_context(&callers[0], 1, CONTEXT, 9));
+    expect("a context", 0, idsm_set_event_count_context(&callers[0], 1, 2, CONTEXT, 8));
+    expect("a short one", 0, idsm_set_event_context(&callers[1], 1, CONTEXT, 1));
+    expect("a third", WITHOUT == 2 ? 4 : 0, idsm_set_event_context(&callers[0], 1, CONTEXT, 2));
+    expect("a turn that is refused", 8, idsm_main(manager, 6, buffer, 300, &sent));
+    tick = 9;
+    expect("the second turn", 0, idsm_main(manager, tick, buffer, 300, &sent));
+    expect("its number", 1, sent.turn);
+    expect_status("two turns", manager, 2, 8, 1, WITHOUT, TOLD_THEN, STORED, 3);
+    expect_lines("its lines", manager, SECOND);
+    expect("lines from byte 4 on", 0, idsm_journal(manager, 4, text, 9, &bytes));
+    expect("their number", 9, bytes);
+    expect("what they are", 0, (uint64_t)(memcmp(text, SECOND + 4, 9) != 0));
+    expect("lines from their end on", 0, idsm_journal(manager, sizeof SECOND - 1, text, 9, &bytes));
+    expect("their number", 0, bytes);
+    expect("lines from far after it", 0, idsm_journal(manager, SIZE_MAX, text, 9, &bytes));
+    expect("their number", 0, bytes);
+    expect("lines without a buffer", 0, idsm_journal(manager, 0, NULL, 0, &bytes));
+    expect("their number", 0, bytes);
+}
+
+/* A manager with a journal, and all that reads it and its callers while it runs. */
+static void journals(void)
+{
+    static idsm_caller callers[3];
+    static idsm_manager manager;
+    static uint8_t buffer[300];
+    idsm_sent sent;
+    idsm_totals totals;
+    uint64_t calls;
+    setups(callers, &manager);
+    first_turn(callers, &manager, buffer);
+    second_turn(callers, &manager, buffer);
+    expect("a last report", 0, idsm_set_event_count(&callers[1], 4, 65535));
+    expect("the stop", 0, idsm_stop(&manager));
+    expect("a stopped caller's calls", 17, idsm_calls(&callers[1], &calls));
+    expect("the last turn", 0, idsm_last(&manager, tick, buffer, sizeof buffer, &sent, &totals));
+    expect("its number", 2, sent.turn);
+    expect("the totals' entries", 9, totals.entries);
+    expect("the totals' losses", 1 + 10 * WITHOUT, totals.lost_events + 10 * totals.lost_contexts);
+    expect("the totals' messages", TOLD_THEN + 1, totals.messages);
+    expect_status("all turns", &manager, 3, 9, 1, WITHOUT, TOLD_THEN + 1, STORED, 3);
+    expect_mode("a mode after the last turn", &manager, 0, IDSM_MODE_BRIEF_BYPASSING);
+    expect_lines("the last turn's lines", &manager, "T 9 0 0 0\nR 1 3 4 65535 - -\n");
+    expect("the manager freed", 0, idsm_free(&manager));
+    expect_no_reading("a reading of closed handles", 17, &manager, &callers[0]);
+}
+
+#ifndef STAND_IN
+static void expect_quiet(const char *what, idsm_manager *manager, uint64_t at, uint8_t is_quiet)
+{
+    uint8_t buffer[80];
+    idsm_sent sent;
+    expect(what, 0, idsm_main(manager, at, buffer, sizeof buffer, &sent));
+    expect(what, is_quiet, sent.quiet);
+}
+
+/* One event buffer, windows of five ticks, and a message in a thousand. A turn is not quiet if it takes something, tells of
+   a loss or of what was held back, or closes a window. */
+static void quiet_turns(void)
+{
+    static const char CONFIG[] = "{\"form\":2,\"instance\":18,\"ring\":1,\"rate\":{\"interval\":1000,\"events\":1},"
+                                 "\"events\":[{\"id\":42,\"sensor\":3,\"aggregate\":{\"interval\":5,\"context\":\"FIRST\"}}]}";
+    idsm_caller caller = {NULL, 0};
+    static idsm_manager manager;
+    idsm_fault fault;
+    expect("windows", 0, idsm_init((const uint8_t *)CONFIG, sizeof CONFIG - 1, &caller, 1, &manager, &fault));
+    expect_quiet("a first turn", &manager, 1, 1);
+    expect("a report", 0, idsm_set_event(&caller, 0));
+    expect("a lost report", 3, idsm_set_event(&caller, 0));
+    expect_quiet("a turn with a report and a loss", &manager, 2, 0);
+    expect_quiet("a turn in the window", &manager, 6, 1);
+    expect_quiet("the turn that closes it", &manager, 7, 0);
+    expect_quiet("a turn after it", &manager, 7, 1);
+    expect("a report", 0, idsm_set_event(&caller, 0));
+    expect_quiet("a turn with a report", &manager, 8, 0);
+    expect_quiet("the turn that holds it back", &manager, 13, 0);
+    expect_quiet("the turn that tells of it", &manager, 13, 0);
+    expect_quiet("a last turn", &manager, 1000, 1);
+    expect("a stop", 0, idsm_stop(&manager));
+}
+#endif
+
 /* Callers are stopped, turns go on, a last one is made, the memory is read, and the manager is freed. */
 static void stopping(void)
 {
@@ -605,8 +853,13 @@ int main(void)
     walks();
     modes();
     memory();
+    refused_readings(&IdsM_Unit.manager, &IdsM_Unit.callers[0]);
     closing();
     stopping();
+    journals();
+#ifndef STAND_IN
+    quiet_turns();
+#endif
     printf("%d checks, %d failed\n", checks, failures);
     return failures == 0 ? 0 : 1;
 }

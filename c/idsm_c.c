@@ -8,7 +8,7 @@ typedef struct {
 } word;
 
 uint32_t idsm_raw_abi(void);
-uint8_t idsm_raw_init(const uint8_t *config, size_t bytes, word *callers, size_t count, word *manager,
+uint8_t idsm_raw_init(const uint8_t *config, size_t bytes, uint8_t journal, word *callers, size_t count, word *manager,
                       idsm_fault *fault);
 uint8_t idsm_raw_report(word *caller, uint16_t event, uint16_t count, uint8_t has_stamp, uint64_t stamp,
                         const uint8_t *context, size_t bytes);
@@ -19,6 +19,10 @@ uint8_t idsm_raw_main(word *manager, uint64_t tick, uint8_t *buffer, size_t byte
 uint8_t idsm_raw_rows(word *manager, uint64_t *rows);
 uint8_t idsm_raw_row_at(word *manager, uint16_t i, uint8_t *context, size_t bytes, idsm_row *row);
 uint8_t idsm_raw_late(word *manager, uint8_t class_index, uint64_t *late);
+uint8_t idsm_raw_status(word *manager, idsm_status *status);
+uint8_t idsm_raw_mode(word *manager, uint16_t event, uint8_t *mode);
+uint8_t idsm_raw_calls(word *caller, uint64_t *calls);
+uint8_t idsm_raw_journal(word *manager, uint64_t at, uint8_t *buffer, size_t size, uint64_t *bytes);
 uint8_t idsm_raw_close(word *handle);
 
 /* What a handle has while a call works with it, and after its manager was closed: the addresses of nothing else. They
@@ -121,16 +125,16 @@ static void free_all(word *words, size_t count)
         idsm_raw_close(&words[i]);
 }
 
-/* Makes callers and manager; none where a turn's messages can take more bytes than there is room. */
-static uint8_t make(const uint8_t *config, size_t bytes, word *callers, size_t count, word *manager, size_t room,
-                    idsm_fault *fault)
+/* Makes callers and manager; none if a turn's messages can take more bytes than there is room. */
+static uint8_t make(const idsm_setup *setup, word *callers, size_t count, word *manager, idsm_fault *fault)
 {
     uint64_t wanted;
-    uint8_t answer = idsm_raw_init(config == NULL ? &no_byte : config, bytes, callers, count, manager, fault);
+    uint8_t answer = idsm_raw_init(setup->config == NULL ? &no_byte : setup->config, setup->bytes, setup->journal, callers,
+                                   count, manager, fault);
     if (answer != IDSM_DONE)
         return answer;
     answer = idsm_raw_buffer_size(manager, &wanted);
-    if (answer == IDSM_DONE && wanted > room)
+    if (answer == IDSM_DONE && setup->room > 0 && wanted > setup->room)
         answer = IDSM_SMALL_BUFFER;
     if (answer != IDSM_DONE) {
         free_all(callers, count);
@@ -139,12 +143,13 @@ static uint8_t make(const uint8_t *config, size_t bytes, word *callers, size_t c
     return answer;
 }
 
-uint8_t idsm_init_within(const uint8_t *config, size_t bytes, idsm_caller *callers, size_t count,
-                         idsm_manager *manager, size_t room, idsm_fault *fault)
+uint8_t idsm_init_with(const idsm_setup *setup, idsm_caller *callers, size_t count, idsm_manager *manager,
+                       idsm_fault *fault)
 {
     static const idsm_fault no_fault = {0, 0, 0};
     word words[IDSM_MOST_CALLERS] = {{NULL}}, own = {NULL};
-    if (fault == NULL || manager == NULL || is_no_memory(config, bytes) || is_no_memory(callers, count))
+    if (fault == NULL || manager == NULL || setup == NULL || is_no_memory(setup->config, setup->bytes) ||
+        is_no_memory(callers, count))
         return IDSM_NULL;
     *fault = no_fault;
     if (count > IDSM_MOST_CALLERS)
@@ -152,12 +157,10 @@ uint8_t idsm_init_within(const uint8_t *config, size_t bytes, idsm_caller *calle
     uint8_t answer = take_all_unset(callers, count, manager);
     if (answer != IDSM_DONE)
         return answer;
-    answer = make(config, bytes, words, count, &own, room, fault);
+    answer = make(setup, words, count, &own, fault);
     if (answer == IDSM_DONE) {
-        static const idsm_totals none = {0, 0, 0, 0};
         manager->callers = callers;
         manager->count = count;
-        manager->totals = none;
     }
     for (size_t i = 0; i < count; i++)
         give(&callers[i].at, words[i].at);
@@ -168,7 +171,8 @@ uint8_t idsm_init_within(const uint8_t *config, size_t bytes, idsm_caller *calle
 uint8_t idsm_init(const uint8_t *config, size_t bytes, idsm_caller *callers, size_t count, idsm_manager *manager,
                   idsm_fault *fault)
 {
-    return idsm_init_within(config, bytes, callers, count, manager, SIZE_MAX, fault);
+    idsm_setup setup = {config, bytes, 0, 0};
+    return idsm_init_with(&setup, callers, count, manager, fault);
 }
 
 static uint8_t report(idsm_caller *caller, uint16_t event, uint16_t count, uint8_t has_stamp, uint64_t stamp,
@@ -234,6 +238,20 @@ uint8_t idsm_set_mode(idsm_caller *caller, uint16_t event, uint8_t mode)
     return answer;
 }
 
+uint8_t idsm_calls(idsm_caller *caller, uint64_t *calls)
+{
+    word own;
+    if (calls == NULL)
+        return IDSM_NULL;
+    *calls = 0;
+    uint8_t answer = take_caller(caller, &own);
+    if (answer != IDSM_DONE)
+        return answer;
+    answer = idsm_raw_calls(&own, calls);
+    give(&caller->at, own.at);
+    return answer;
+}
+
 /* A number of the manager. */
 static uint8_t ask(idsm_manager *manager, uint8_t (*number_of)(word *, uint64_t *), uint64_t *number)
 {
@@ -270,6 +288,51 @@ uint8_t idsm_late(idsm_manager *manager, uint8_t class_index, uint64_t *late)
         return answer;
     answer = idsm_raw_late(&own, class_index, late);
     give(&manager->at, own.at);
+    return answer;
+}
+
+uint8_t idsm_read_status(idsm_manager *manager, idsm_status *status)
+{
+    static const idsm_status nothing = {0, 0, 0, 0, 0, 0, 0, 0, 0};
+    word own;
+    if (status == NULL)
+        return IDSM_NULL;
+    *status = nothing;
+    uint8_t answer = take_manager(manager, &own);
+    if (answer != IDSM_DONE)
+        return answer;
+    answer = idsm_raw_status(&own, status);
+    give(&manager->at, own.at);
+    return answer;
+}
+
+uint8_t idsm_mode(idsm_manager *manager, uint16_t event, uint8_t *mode)
+{
+    word own;
+    if (mode == NULL)
+        return IDSM_NULL;
+    *mode = 0;
+    uint8_t answer = take_manager(manager, &own);
+    if (answer != IDSM_DONE)
+        return answer;
+    answer = idsm_raw_mode(&own, event, mode);
+    give(&manager->at, own.at);
+    return answer;
+}
+
+uint8_t idsm_journal(idsm_manager *manager, size_t at, uint8_t *buffer, size_t size, size_t *bytes)
+{
+    word own;
+    uint64_t number = 0;
+    if (bytes == NULL || is_no_memory(buffer, size))
+        return IDSM_NULL;
+    *bytes = 0;
+    uint8_t answer = take_manager(manager, &own);
+    if (answer != IDSM_DONE)
+        return answer;
+    answer = idsm_raw_journal(&own, at, buffer == NULL ? &no_byte : buffer, size, &number);
+    give(&manager->at, own.at);
+    *bytes = (size_t)number;
     return answer;
 }
 
@@ -321,19 +384,25 @@ static void hand_out(route out, const uint8_t *messages, const idsm_sent *sent)
         out.send(out.to, messages + at, length);
 }
 
-/* A turn of the manager whose word this is. What it sent is written only where it was made. */
-static uint8_t turn(idsm_manager *manager, word *own, uint64_t tick, uint8_t *buffer, size_t bytes, idsm_sent *sent)
+/* A turn of the manager whose word this is. What it sent is written only if it was made. */
+static uint8_t turn(word *own, uint64_t tick, uint8_t *buffer, size_t bytes, idsm_sent *sent)
 {
-    idsm_sent told = {0, 0, 0, 0, 0};
+    idsm_sent told = {0, 0, 0, 0, 0, 0, 0};
     uint8_t answer = idsm_raw_main(own, tick, buffer == NULL ? &no_byte : buffer, bytes, &told);
-    if (answer == IDSM_DONE) {
-        manager->totals.entries += told.entries;
-        manager->totals.lost_events += told.lost_events;
-        manager->totals.lost_contexts += told.lost_contexts;
-        manager->totals.messages += told.messages;
+    if (answer == IDSM_DONE)
         *sent = told;
-    }
     return answer;
+}
+
+/* The totals of all turns. */
+static void read_totals(word *own, idsm_totals *totals)
+{
+    idsm_status status = {0, 0, 0, 0, 0, 0, 0, 0, 0};
+    idsm_raw_status(own, &status);
+    totals->entries = status.entries;
+    totals->lost_events = status.lost_events;
+    totals->lost_contexts = status.lost_contexts;
+    totals->messages = status.messages;
 }
 
 /* How far a manager is: its callers may call, they are stopped, its last turn was made. Only who has its handle writes it. */
@@ -368,7 +437,7 @@ static uint8_t main_turn(idsm_manager *manager, uint64_t tick, uint8_t *buffer, 
     uint8_t answer = take_running(manager, &own);
     if (answer != IDSM_DONE)
         return answer;
-    answer = turn(manager, &own, tick, buffer, bytes, sent);
+    answer = turn(&own, tick, buffer, bytes, sent);
     if (answer == IDSM_DONE)
         hand_out(out, buffer, sent);
     give(&manager->at, own.at);
@@ -377,7 +446,7 @@ static uint8_t main_turn(idsm_manager *manager, uint64_t tick, uint8_t *buffer, 
 
 uint8_t idsm_main(idsm_manager *manager, uint64_t tick, uint8_t *buffer, size_t bytes, idsm_sent *sent)
 {
-    static const idsm_sent nothing = {0, 0, 0, 0, 0};
+    static const idsm_sent nothing = {0, 0, 0, 0, 0, 0, 0};
     static const route nowhere = {NULL, NULL};
     if (sent == NULL || is_no_memory(buffer, bytes))
         return IDSM_NULL;
@@ -516,7 +585,7 @@ static uint8_t last_turn(idsm_manager *manager, word *own, uint64_t tick, uint8_
         set_state(manager, STOPPED);
         return answer;
     }
-    answer = turn(manager, own, tick, buffer, bytes, sent);
+    answer = turn(own, tick, buffer, bytes, sent);
     leave_callers(manager, words, answer == IDSM_DONE);
     if (answer != IDSM_DONE) {
         if (state_of(manager) == RUNNING)
@@ -524,7 +593,7 @@ static uint8_t last_turn(idsm_manager *manager, word *own, uint64_t tick, uint8_
         return answer;
     }
     set_state(manager, ENDED);
-    *totals = manager->totals;
+    read_totals(own, totals);
     hand_out(out, buffer, sent);
     return IDSM_DONE;
 }
@@ -548,7 +617,7 @@ static uint8_t end(idsm_manager *manager, uint64_t tick, uint8_t *buffer, size_t
 static uint8_t end_telling(idsm_manager *manager, uint64_t tick, uint8_t *buffer, size_t bytes, idsm_sent *sent,
                            idsm_totals *totals, int frees)
 {
-    static const idsm_sent nothing = {0, 0, 0, 0, 0};
+    static const idsm_sent nothing = {0, 0, 0, 0, 0, 0, 0};
     static const idsm_totals none = {0, 0, 0, 0};
     static const route nowhere = {NULL, NULL};
     if (sent == NULL || totals == NULL || is_no_memory(buffer, bytes))

@@ -63,8 +63,15 @@ typedef struct {
     uint32_t stopped;
     idsm_caller *callers;
     size_t count;
-    idsm_totals totals;
 } idsm_manager;
+
+/* What a manager is made of. What is zeros is not asked for. */
+typedef struct {
+    const uint8_t *config; /* the JSON text of the configuration */
+    size_t bytes;
+    size_t room;     /* of the buffer for a turn's messages: IDSM_SMALL_BUFFER if they can be more. 0: not compared */
+    uint8_t journal; /* 1: idsm_journal gives the lines of each turn */
+} idsm_setup;
 
 /* The first fault of a configuration: its number, and where: 0 top, 1 class, 2 event, with its place. */
 typedef struct {
@@ -73,14 +80,32 @@ typedef struct {
     uint32_t place;
 } idsm_fault;
 
-/* What a turn tells. */
+/* What a turn tells: its number, from 0, the bytes of its messages, what it took and lost, and how many messages it sent.
+   It is quiet if it took and lost nothing, has nothing to tell of the limits, and closed no window: a journal without its
+   lines tells the same. */
 typedef struct {
+    uint64_t turn;
     uint64_t bytes;
     uint64_t entries;
     uint64_t lost_events;
     uint64_t lost_contexts;
     uint64_t messages;
+    uint8_t quiet; /* 1 or 0 */
 } idsm_sent;
+
+/* What all turns of a manager so far did. `limited` is how many events the limits held back, `state` the block state as the
+   last turn left it. */
+typedef struct {
+    uint64_t turns;
+    uint64_t tick;
+    uint64_t entries;
+    uint64_t lost_events;
+    uint64_t lost_contexts;
+    uint64_t messages;
+    uint64_t limited;
+    uint32_t records;
+    uint8_t state;
+} idsm_status;
 
 /* A record of the event memory. */
 typedef struct {
@@ -102,10 +127,9 @@ uint32_t idsm_abi(void);
 uint8_t idsm_init(const uint8_t *config, size_t bytes, idsm_caller *callers, size_t count, idsm_manager *manager,
                   idsm_fault *fault);
 
-/* The same for a buffer of so many bytes: IDSM_SMALL_BUFFER if a turn's messages can be more, and then no handle is
-   filled. */
-uint8_t idsm_init_within(const uint8_t *config, size_t bytes, idsm_caller *callers, size_t count,
-                         idsm_manager *manager, size_t room, idsm_fault *fault);
+/* The same for a setup that says more than the configuration. */
+uint8_t idsm_init_with(const idsm_setup *setup, idsm_caller *callers, size_t count, idsm_manager *manager,
+                       idsm_fault *fault);
 
 /* Calls of callers. An event is its place in the configuration, from 0. (NULL, 0) is no context. */
 uint8_t idsm_set_event(idsm_caller *caller, uint16_t event);
@@ -117,6 +141,9 @@ uint8_t idsm_set_event_at(idsm_caller *caller, uint16_t event, uint16_t count, u
                           const uint8_t *context, size_t bytes);
 uint8_t idsm_set_state(idsm_caller *caller, uint8_t state);
 uint8_t idsm_set_mode(idsm_caller *caller, uint16_t event, uint8_t mode);
+
+/* How many calls a caller made, lost ones too. One that is refused is none. IDSM_CLOSED if it is stopped. */
+uint8_t idsm_calls(idsm_caller *caller, uint64_t *calls);
 
 /* Makes a turn. Its messages stand at the front of the buffer, which has at least the bytes of idsm_buffer_size. `sent` is
    zeros if none was made, so two tasks that may call it at once need a `sent` and a buffer each. */
@@ -144,6 +171,16 @@ uint8_t idsm_snapshot(idsm_manager *manager, idsm_row *rows, size_t most, uint8_
 
 /* How many context data buffers of a class wait. */
 uint8_t idsm_late(idsm_manager *manager, uint8_t class_index, uint64_t *late);
+
+/* What all turns so far did, and the reporting mode of an event as the last turn left it: IDSM_OUT_OF_RANGE if there is no
+   such event. */
+uint8_t idsm_read_status(idsm_manager *manager, idsm_status *status);
+uint8_t idsm_mode(idsm_manager *manager, uint16_t event, uint8_t *mode);
+
+/* The lines of the last turn as a journal has them (docs/FORMATS.md): as many bytes as fit, from byte `at` on, at the front of
+   the buffer. *bytes is how many: 0 at their end, and before the first turn. IDSM_OUT_OF_RANGE if no journal was asked for,
+   IDSM_SMALL_BUFFER if idsm_init took no room for so long a turn. */
+uint8_t idsm_journal(idsm_manager *manager, size_t at, uint8_t *buffer, size_t size, size_t *bytes);
 
 /* Stops the callers of a manager for good: a call that begins after it answers IDSM_CLOSED and is in no total. IDSM_DONE says
    that no call of them is under way any more, IDSM_BUSY that one is, or one of the manager: ask again. */

@@ -1,6 +1,6 @@
 /* What a manager takes of memory: idsm_init takes IDSM_CFG_MEMORY bytes, in as many blocks as BLOCKS says where it is
-   defined, and none where it refuses. No call after it asks for any or gives any back, and after the close all are given
-   back. And the other numbers of IdsM_Cfg.h: those of callers, classes, events and event buffers, and the bytes of a turn's
+   defined, and none where it refuses. With a journal it takes IDSM_CFG_JOURNAL bytes more, in one block, which is room for the
+   lines of each turn. No call after it asks for any or gives any back, and after the close all are given back. And the other numbers of IdsM_Cfg.h: those of callers, classes, events and event buffers, and the bytes of a turn's
    messages. c/check links it with --wrap, so that each call of the allocator comes here. With STAND_IN it is for
    c/stand_in.c, which takes other bytes. */
 #include "IdsM_Cfg.h"
@@ -94,6 +94,32 @@ static int works(void)
     return done;
 }
 
+/* The bytes of the largest context data buffer, which c_config has counted in IDSM_CFG_BUFFER for each of these reports. */
+enum { REPORTS = IDSM_CFG_RING + IDSM_CFG_EVENTS, EACH = (IDSM_CFG_BUFFER - 16 * (REPORTS + 3)) / REPORTS };
+enum { LARGEST = EACH > 4 ? EACH - 4 : 1 };
+
+/* Turns in which each event buffer has a report with a long line: with context data of the largest class, or with one byte,
+   which all classes may hold. Answers whether all lines of each turn can be read. */
+static int tells_lines(void)
+{
+    static const uint8_t context[LARGEST] = {1};
+    static uint8_t lines[IDSM_CFG_JOURNAL];
+    size_t count = 0, more = 0;
+    int done = 1;
+    for (uint64_t tick = 4; tick < 8; tick++) {
+        for (unsigned i = 0; i < IDSM_CFG_RING * IDSM_CFG_EVENTS; i++)
+            idsm_set_event_at(&callers[i % IDSM_CFG_CALLERS], (uint16_t)(i % IDSM_CFG_EVENTS), 65535, UINT64_MAX, context,
+                              tick % 2 == 0 ? LARGEST : 1);
+        done = done && idsm_main(&manager, tick, buffer, sizeof buffer, &sent) == IDSM_DONE;
+        done = done && sent.entries == IDSM_CFG_RING;
+        done = done && idsm_journal(&manager, 0, lines, sizeof lines, &count) == IDSM_DONE && count > 0;
+#ifndef STAND_IN
+        done = done && idsm_journal(&manager, count, lines, sizeof lines, &more) == IDSM_DONE && more == 0;
+#endif
+    }
+    return done && more == 0;
+}
+
 static int failures;
 
 static void expect(const char *what, size_t wanted, size_t got)
@@ -121,30 +147,45 @@ static void numbers(void)
     expect("its entries", IDSM_CFG_RING, (size_t)sent.entries);
 }
 
-int main(void)
+/* A manager from its init to its close, with a journal or without. */
+static void run(uint8_t journal)
 {
+    static const idsm_caller no_caller;
+    static const idsm_manager no_manager;
+    idsm_setup setup = {IDSM_CFG_BYTES, sizeof IDSM_CFG_BYTES, sizeof buffer, journal};
     idsm_fault fault;
     idsm_totals totals;
-    expect("an init without its callers", IDSM_OUT_OF_RANGE,
-           idsm_init(IDSM_CFG_BYTES, sizeof IDSM_CFG_BYTES, NULL, 0, &manager, &fault));
-    expect("an init of half a configuration", IDSM_CONFIGURATION,
-           idsm_init(IDSM_CFG_BYTES, sizeof IDSM_CFG_BYTES / 2, callers, IDSM_CFG_CALLERS, &manager, &fault));
-    expect("the bytes that are left after a refusal", 0, taken);
-    expect("idsm_init", IDSM_DONE,
-           idsm_init(IDSM_CFG_BYTES, sizeof IDSM_CFG_BYTES, callers, IDSM_CFG_CALLERS, &manager, &fault));
+    for (unsigned i = 0; i < IDSM_CFG_CALLERS; i++)
+        callers[i] = no_caller;
+    manager = no_manager;
+    expect("idsm_init_with", IDSM_DONE, idsm_init_with(&setup, callers, IDSM_CFG_CALLERS, &manager, &fault));
 #ifdef STAND_IN
     expect("whether idsm_init takes memory", 1, taken > 0);
 #else
-    expect("the bytes that idsm_init takes", IDSM_CFG_MEMORY, taken);
+    expect("the bytes that idsm_init takes", IDSM_CFG_MEMORY + (journal ? IDSM_CFG_JOURNAL : 0), taken);
 #ifdef BLOCKS
-    expect("the blocks that idsm_init takes", BLOCKS, blocks);
+    expect("the blocks that idsm_init takes", BLOCKS + journal, blocks);
 #endif
 #endif
     calls = 0;
     numbers();
     expect("whether each call does its work", 1, (size_t)works());
+    if (journal)
+        expect("whether all lines of each turn are told", 1, (size_t)tells_lines());
     expect("calls of the allocator before the close", 0, calls);
-    expect("idsm_close", IDSM_DONE, idsm_close(&manager, 4, buffer, sizeof buffer, &sent, &totals));
+    expect("idsm_close", IDSM_DONE, idsm_close(&manager, 8, buffer, sizeof buffer, &sent, &totals));
     expect("the bytes that are left after the close", 0, taken + blocks);
+}
+
+int main(void)
+{
+    idsm_fault fault;
+    expect("an init without its callers", IDSM_OUT_OF_RANGE,
+           idsm_init(IDSM_CFG_BYTES, sizeof IDSM_CFG_BYTES, NULL, 0, &manager, &fault));
+    expect("an init of half a configuration", IDSM_CONFIGURATION,
+           idsm_init(IDSM_CFG_BYTES, sizeof IDSM_CFG_BYTES / 2, callers, IDSM_CFG_CALLERS, &manager, &fault));
+    expect("the bytes that are left after a refusal", 0, taken);
+    run(0);
+    run(1);
     return failures == 0 ? 0 : 1;
 }

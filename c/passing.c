@@ -31,6 +31,7 @@ static uint64_t sent_bytes = 1;
 static uint64_t given[4];
 static const uint8_t *bytes_at;
 static size_t bytes_given, handles_given;
+static uint8_t journal_given;
 static int closed, in_snapshot;
 static void (*meanwhile)(void);
 static char caller_part, other_part, manager_part;
@@ -57,10 +58,11 @@ uint32_t idsm_raw_abi(void)
     return 77;
 }
 
-uint8_t idsm_raw_init(const uint8_t *config, size_t bytes, word *callers, size_t count, word *manager,
+uint8_t idsm_raw_init(const uint8_t *config, size_t bytes, uint8_t journal, word *callers, size_t count, word *manager,
                       idsm_fault *fault)
 {
     idsm_fault found = {11, 12, 13};
+    journal_given = journal;
     expect_bytes(config, bytes);
     handles_given = count;
     expect("a fault at first", 0, fault->number + fault->part + fault->place);
@@ -112,9 +114,10 @@ uint8_t idsm_raw_buffer_size(word *manager, uint64_t *bytes)
 
 uint8_t idsm_raw_main(word *manager, uint64_t tick, uint8_t *buffer, size_t bytes, idsm_sent *sent)
 {
-    idsm_sent told = {sent_bytes, 2, 3, 4, 5};
+    idsm_sent told = {6, sent_bytes, 2, 3, 4, 5, 1};
     expect("a manager with a turn", 1, manager->at == &manager_part);
-    expect("what is sent at first", 0, sent->bytes + sent->entries + sent->lost_events + sent->lost_contexts + sent->messages);
+    expect("what is sent at first", 0,
+           sent->turn + sent->bytes + sent->entries + sent->lost_events + sent->lost_contexts + sent->messages + sent->quiet);
     given[0] = tick;
     expect_bytes(buffer, bytes);
     if (answer == IDSM_DONE)
@@ -150,6 +153,43 @@ uint8_t idsm_raw_late(word *manager, uint8_t class_index, uint64_t *late)
     return answers();
 }
 
+uint8_t idsm_raw_status(word *manager, idsm_status *status)
+{
+    idsm_status told = {41, 42, 43, 44, 45, 46, 47, 48, 49};
+    expect("a manager with a status", 1, manager->at == &manager_part);
+    expect("a status at first", 0, status->turns + status->tick + status->entries + status->lost_events +
+           status->lost_contexts + status->messages + status->limited + status->records + status->state);
+    *status = told;
+    return answers();
+}
+
+uint8_t idsm_raw_mode(word *manager, uint16_t event, uint8_t *mode)
+{
+    expect("a manager with a mode", 1, manager->at == &manager_part);
+    expect("a mode at first", 0, *mode);
+    given[0] = event;
+    *mode = 24;
+    return answers();
+}
+
+uint8_t idsm_raw_calls(word *caller, uint64_t *calls)
+{
+    expect("a caller with calls", 1, caller->at == &caller_part);
+    expect("calls at first", 0, *calls);
+    *calls = 25;
+    return answers();
+}
+
+uint8_t idsm_raw_journal(word *manager, uint64_t at, uint8_t *to, size_t size, uint64_t *bytes)
+{
+    expect("a manager with a journal", 1, manager->at == &manager_part);
+    expect("a journal's bytes at first", 0, *bytes);
+    given[0] = at;
+    expect_bytes(to, size);
+    *bytes = 26;
+    return answers();
+}
+
 uint8_t idsm_raw_close(word *handle)
 {
     expect("what is freed", 1, handle->at == (closed == 0 ? &caller_part : closed == 1 ? &other_part : &manager_part));
@@ -161,6 +201,13 @@ uint8_t idsm_raw_close(word *handle)
 static idsm_caller callers[2];
 static idsm_manager manager;
 static uint8_t buffer[8];
+
+/* Totals are those of a status. */
+static void expect_totals(const char *what, const idsm_totals *totals)
+{
+    expect(what, 1, totals->entries == 43 && totals->lost_events == 44 && totals->lost_contexts == 45 &&
+           totals->messages == 46);
+}
 
 static void expect_report(const char *what, uint64_t count, uint64_t has_stamp, uint64_t stamp, const uint8_t *context,
                           size_t bytes)
@@ -178,8 +225,10 @@ static void calls(void)
 {
     idsm_sent sent;
     idsm_row row, rows[2];
+    idsm_status status = {9, 9, 9, 9, 9, 9, 9, 9, 9};
     uint64_t number;
     size_t count;
+    uint8_t mode = 9;
     expect("a report", answer, idsm_set_event(callers, 300));
     expect_report("a report", 1, 0, 0, NULL, 0);
     expect("a count", answer, idsm_set_event_count(callers, 300, 400));
@@ -202,14 +251,26 @@ static void calls(void)
     expect("rows", 2, number);
     expect("late", answer, idsm_late(&manager, 3, &number));
     expect("late", 26, number + given[0]);
+    expect("calls", answer, idsm_calls(callers, &number));
+    expect("calls", 25, number);
+    expect("a status", answer, idsm_read_status(&manager, &status));
+    expect("its fields", 1, status.turns == 41 && status.tick == 42 && status.entries == 43 && status.lost_events == 44 &&
+           status.lost_contexts == 45 && status.messages == 46 && status.limited == 47 && status.records == 48 &&
+           status.state == 49);
+    expect("a mode's reading", answer, idsm_mode(&manager, 300, &mode));
+    expect("its event and the mode", 324, given[0] + mode);
+    expect("a journal", answer, idsm_journal(&manager, (size_t)1 << 40, buffer, 5, &count));
+    expect("where from", (uint64_t)1 << 40, given[0]);
+    expect("its buffer and bytes", 32, bytes_given + (bytes_at == buffer) + count);
     expect("a turn", answer, idsm_main(&manager, 1234567890123, buffer, 8, &sent));
     expect("its tick", 1234567890123, given[0]);
     expect("its buffer", 9, bytes_given + (bytes_at == buffer));
     if (answer == IDSM_DONE)
-        expect("what it sent", 54321, sent.bytes + sent.entries * 10 + sent.lost_events * 100 +
-               sent.lost_contexts * 1000 + sent.messages * 10000);
+        expect("what it sent", 1654321, sent.bytes + sent.entries * 10 + sent.lost_events * 100 +
+               sent.lost_contexts * 1000 + sent.messages * 10000 + sent.turn * 100000 + sent.quiet * 1000000);
     else
-        expect("what it sent", 0, sent.bytes + sent.entries + sent.lost_events + sent.lost_contexts + sent.messages);
+        expect("what it sent", 0,
+               sent.turn + sent.bytes + sent.entries + sent.lost_events + sent.lost_contexts + sent.messages + sent.quiet);
     expect("a row", answer, idsm_row_at(&manager, 4, buffer, 5, &row));
     expect("its arguments", 10, given[0] + bytes_given + (bytes_at == buffer));
     expect("its fields", 1, row.first == 35 && row.last == 32 && row.stamp == 33 && row.bytes == 34 && row.event == 35 &&
@@ -236,6 +297,8 @@ static void no_bytes(void)
     expect("its buffer", 0, bytes_given);
     expect("a row without a context", 0, idsm_row_at(&manager, 0, NULL, 0, &row));
     expect("its context", 0, bytes_given);
+    expect("a journal without a buffer", 0, idsm_journal(&manager, 1, NULL, 0, &count));
+    expect("its buffer", 0, bytes_given);
     in_snapshot = 1;
     expect("a snapshot without contexts", 0, idsm_snapshot(&manager, rows, 2, NULL, 0, &count));
     expect("its contexts", 0, bytes_given);
@@ -263,8 +326,10 @@ static void interrupts(void)
     expect("a report meanwhile", 16, idsm_set_event(callers, 0));
     expect("a state meanwhile", 16, idsm_set_state(callers, 0));
     expect("a mode meanwhile", 16, idsm_set_mode(callers, 0, 0));
+    expect("calls meanwhile", 16, idsm_calls(callers, &number));
     expect("a close meanwhile", 16, idsm_close(&manager, 1, buffer, 8, &sent, &totals));
     expect("a report after it", 17, idsm_set_event(callers, 0));
+    expect("calls after it", 17, idsm_calls(callers, &number));
     expect("a stop meanwhile", 16, idsm_stop(&manager));
     expect("a last turn meanwhile", 16, idsm_last(&manager, 1, buffer, 8, &sent, &totals));
     expect("an init meanwhile", 14, idsm_init(buffer, 1, callers, 2, &manager, &fault));
@@ -291,8 +356,10 @@ static void interrupts_turn(void)
     idsm_totals totals;
     idsm_fault fault;
     idsm_row row;
+    idsm_status status;
     uint64_t number;
     size_t count;
+    uint8_t mode;
     void (*own)(void) = meanwhile;
     meanwhile = NULL;
     expect("a turn meanwhile", 16, idsm_main(&manager, 1, buffer, 8, &sent));
@@ -300,6 +367,10 @@ static void interrupts_turn(void)
     expect("a size meanwhile", 16, idsm_buffer_size(&manager, &number));
     expect("rows meanwhile", 16, idsm_rows(&manager, &number));
     expect("late meanwhile", 16, idsm_late(&manager, 0, &number));
+    expect("a status meanwhile", 16, idsm_read_status(&manager, &status));
+    expect("a mode meanwhile", 16, idsm_mode(&manager, 0, &mode));
+    expect("a journal meanwhile", 16, idsm_journal(&manager, 0, buffer, 8, &count));
+    expect("what they tell", 0, status.turns + status.state + mode + count);
     expect("a row meanwhile", 16, idsm_row_at(&manager, 0, buffer, 8, &row));
     expect("a snapshot meanwhile", 16, idsm_snapshot(&manager, NULL, 0, NULL, 0, &count));
     expect("an init meanwhile", 16, idsm_init(buffer, 1, callers, 2, &manager, &fault));
@@ -348,12 +419,16 @@ static void expect_unset(const char *what)
 /* Callers and a manager that do not fit the buffer, or that have no size, are freed again. */
 static void room(void)
 {
+    idsm_setup setup = {buffer, 3, 20, 1};
     idsm_fault fault;
     answer = IDSM_DONE;
-    expect("a buffer too small", 13, idsm_init_within(buffer, 3, callers, 2, &manager, 20, &fault));
+    expect("a buffer too small", 13, idsm_init_with(&setup, callers, 2, &manager, &fault));
+    expect("its configuration", 4, bytes_given + (bytes_at == buffer));
+    expect("its journal", 1, journal_given);
     expect_unset("its handles");
     size_answer = IDSM_OTHER_ROLE;
-    expect("no size", 2, idsm_init_within(buffer, 3, callers, 2, &manager, 21, &fault));
+    setup.room = 21;
+    expect("no size", 2, idsm_init_with(&setup, callers, 2, &manager, &fault));
     expect_unset("the handles of no size");
     size_answer = IDSM_DONE;
 }
@@ -368,9 +443,10 @@ struct sink {
 static void keep(void *to, const uint8_t *message, size_t length)
 {
     struct sink *sink = to;
-    idsm_sent sent = {9, 9, 9, 9, 9};
+    idsm_sent sent = {9, 9, 9, 9, 9, 9, 9};
     idsm_totals totals = {9, 9, 9, 9};
     uint64_t number;
+    size_t count;
     sink->bytes[sink->count++] = (uint8_t)length;
     memcpy(sink->bytes + sink->count, message, length);
     sink->count += length;
@@ -378,6 +454,7 @@ static void keep(void *to, const uint8_t *message, size_t length)
     expect("a close then", 16, idsm_close_send(&manager, 1, buffer, 8, keep, to, &sent, &totals));
     expect("what they told", 9, sent.bytes & sent.messages & totals.entries & totals.messages);
     expect("rows then", 16, idsm_rows(&manager, &number));
+    expect("a journal then", 16, idsm_journal(&manager, 0, buffer, 8, &count));
     expect("a report then", sink->report, idsm_set_event(callers, 300));
 }
 
@@ -395,7 +472,7 @@ static void sends(void)
 {
     struct sink sink = {{0}, 0, IDSM_DONE}, none = sink;
     uint8_t sending[25];
-    idsm_sent sent = {9, 9, 9, 9, 9};
+    idsm_sent sent = {9, 9, 9, 9, 9, 9, 9};
     idsm_totals totals = {9, 9, 9, 9};
     memcpy(sending, MESSAGES, sizeof sending);
     sent_bytes = 17;
@@ -423,9 +500,7 @@ static void sends(void)
     expect("a close that sends", 0, idsm_close_send(&manager, 9, sending, 25, keep, &sink, &sent, &totals));
     expect_sent("what the close sent", &sink);
     expect("what the close told", 17, sent.bytes);
-    /* Of the turn and of the close. */
-    expect("its totals", 4 + 60 + 800 + 10000,
-           totals.entries + totals.lost_events * 10 + totals.lost_contexts * 100 + totals.messages * 1000);
+    expect_totals("its totals", &totals);
     expect("what it freed", 3, (uint64_t)closed);
     closed = 0;
     sent_bytes = 1;
@@ -433,6 +508,7 @@ static void sends(void)
 
 int main(void)
 {
+    static const idsm_setup nothing;
     idsm_fault fault;
     idsm_sent sent;
     idsm_totals totals;
@@ -448,16 +524,17 @@ int main(void)
     }
     many_handles();
     room();
-    expect("no configuration", 0, idsm_init_within(NULL, 0, callers, 2, &manager, 21, &fault));
-    expect("its bytes", 0, bytes_given);
+    expect("no configuration", 0, idsm_init_with(&nothing, callers, 2, &manager, &fault));
+    expect("its bytes and journal", 0, bytes_given + journal_given);
     sends();
     memset(callers, 0, sizeof callers);
     memset(&manager, 0, sizeof manager);
     answer = 0;
+    journal_given = 9;
     meanwhile = interrupts_init;
     expect("an init", 0, idsm_init(buffer, 3, callers, 2, &manager, &fault));
     meanwhile = NULL;
-    expect("its bytes", 4, bytes_given + (bytes_at == buffer));
+    expect("its bytes and journal", 4, bytes_given + (bytes_at == buffer) + journal_given);
     expect("its handles", 2, handles_given);
     for (answer = 0; answer < 18; answer++)
         calls();
@@ -478,9 +555,7 @@ int main(void)
     meanwhile = NULL;
     expect("the close", 0, idsm_close(&manager, 6, buffer, 8, &sent, &totals));
     expect("what was freed", 3, (uint64_t)closed);
-    /* Of a turn with a buffer and one without, the interrupted one and that of the close: 2, 3, 4 and 5 in each. */
-    expect("the totals", 8 + 120 + 1600 + 20000,
-           totals.entries + totals.lost_events * 10 + totals.lost_contexts * 100 + totals.messages * 1000);
+    expect_totals("the totals", &totals);
     expect("what the close sent", 1, sent.bytes);
     expect("a closed caller", 17, idsm_set_event(callers, 0));
     expect("a closed manager", 17, idsm_main(&manager, 7, buffer, 8, &sent));

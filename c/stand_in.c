@@ -1,13 +1,15 @@
 /* A stand-in for the proved library, for a first link in seconds: c/build --unproved. It reads callers, ring, classes and
    events of a configuration, answers as idsm_c.h says, and sends each report as a message of profile 1. It has no filter
-   but the modes, no limit, no internal event and no event memory, it does not judge a configuration, and nothing of it is
-   proved. */
+   but the modes, no limit, no internal event and no event memory. A class has any number of context data buffers, so a
+   context is missing only if no class is large enough. It does not judge a configuration, and nothing of it is proved. */
+#include <inttypes.h>
+#include <stdio.h>
 #include <stdlib.h>
 #include <string.h>
 
 #include "idsm_c.h"
 
-enum { MOST_EVENTS = 256, MOST_CLASSES = 4, MOST_RING = 1024, MOST_CONTEXT = 1024 };
+enum { MOST_EVENTS = 256, MOST_CLASSES = 4, MOST_RING = 1024, MOST_CONTEXT = 1024, MOST_LINE = 72 + 2 * MOST_CONTEXT };
 
 struct event {
     uint32_t id;
@@ -17,17 +19,17 @@ struct event {
 };
 
 struct config {
-    uint32_t instance, callers, ring;
+    uint32_t instance, callers, ring, state;
     uint32_t events, classes;
     struct event event[MOST_EVENTS];
     uint32_t size[MOST_CLASSES];
 };
 
-/* A report that waits for a turn, or a change of a mode. */
+/* A report that waits for a turn, or a change of a mode, or of the state: that is of no event. */
 struct entry {
-    uint64_t stamp;
+    uint64_t stamp, call, claim;
     uint16_t event, count, bytes;
-    uint8_t has_stamp, is_mode, mode;
+    uint8_t caller, has_stamp, is_mode, mode, class_index, is_missing;
     uint8_t context[MOST_CONTEXT];
 };
 
@@ -35,14 +37,17 @@ struct unit {
     struct config config;
     char lock;
     uint32_t parts, waiting, lost_events, lost_contexts;
-    uint64_t tick;
+    uint64_t claims[MOST_CLASSES];
+    idsm_status status;
+    char *lines; /* of the last turn, where a journal is asked for */
+    size_t length;
     struct entry entry[];
 };
 
 struct part {
     struct unit *unit;
     uint64_t calls;
-    int turns;
+    uint8_t number, turns;
 };
 
 typedef struct {
@@ -144,12 +149,13 @@ static int next_element(struct reader *in, int first)
     return !in->fails;
 }
 
+static const char *const mode_names[] = {"OFF", "BRIEF", "DETAILED", "BRIEF_BYPASSING_FILTERS",
+                                         "DETAILED_BYPASSING_FILTERS"};
+
 static uint8_t mode_of(const char *text)
 {
-    static const char *const names[] = {"OFF", "BRIEF", "DETAILED", "BRIEF_BYPASSING_FILTERS",
-                                        "DETAILED_BYPASSING_FILTERS"};
     for (uint8_t i = 0; i < 5; i++)
-        if (strcmp(text, names[i]) == 0)
+        if (strcmp(text, mode_names[i]) == 0)
             return i;
     return IDSM_MODE_DETAILED;
 }
@@ -217,6 +223,8 @@ static int read_config(const uint8_t *bytes, size_t count, struct config *config
             config->callers = read_number(&in, IDSM_MOST_CALLERS);
         else if (strcmp(name, "ring") == 0)
             config->ring = read_number(&in, MOST_RING);
+        else if (strcmp(name, "state") == 0)
+            config->state = read_number(&in, 255);
         else if (strcmp(name, "internal") == 0 && next(&in) == '{')
             read_internal(&in, config);
         else if (strcmp(name, "events") == 0) {
@@ -246,12 +254,13 @@ static void unlock(struct unit *unit)
     __atomic_clear(&unit->lock, __ATOMIC_SEQ_CST);
 }
 
-static struct part *new_part(struct unit *unit, int turns)
+static struct part *new_part(struct unit *unit, uint8_t turns, uint32_t number)
 {
     struct part *part = malloc(sizeof *part);
     if (part != NULL) {
         part->unit = unit;
         part->turns = turns;
+        part->number = (uint8_t)number;
         part->calls = 0;
         unit->parts++;
     }
@@ -260,9 +269,9 @@ static struct part *new_part(struct unit *unit, int turns)
 
 static uint8_t fill(struct unit *unit, word *callers, word *manager)
 {
-    manager->at = new_part(unit, 1);
+    manager->at = new_part(unit, 1, 0);
     for (uint32_t i = 0; i < unit->config.callers && manager->at != NULL; i++) {
-        callers[i].at = new_part(unit, 0);
+        callers[i].at = new_part(unit, 0, i);
         if (callers[i].at == NULL) {
             while (i-- > 0)
                 free(callers[i].at);
@@ -278,7 +287,8 @@ uint32_t idsm_raw_abi(void)
     return IDSM_ABI;
 }
 
-uint8_t idsm_raw_init(const uint8_t *text, size_t bytes, word *callers, size_t count, word *manager, idsm_fault *fault)
+uint8_t idsm_raw_init(const uint8_t *text, size_t bytes, uint8_t journal, word *callers, size_t count, word *manager,
+                      idsm_fault *fault)
 {
     struct config *config = calloc(1, sizeof *config);
     uint8_t answer = IDSM_DONE;
@@ -289,9 +299,12 @@ uint8_t idsm_raw_init(const uint8_t *text, size_t bytes, word *callers, size_t c
         answer = IDSM_CONFIGURATION;
     else if (config->callers != count)
         answer = IDSM_OUT_OF_RANGE;
-    struct unit *unit = answer != IDSM_DONE ? NULL : calloc(1, sizeof *unit + config->ring * sizeof(struct entry));
+    size_t entries = config->ring * sizeof(struct entry), lines = journal ? (config->ring + 1) * MOST_LINE : 0;
+    struct unit *unit = answer != IDSM_DONE ? NULL : calloc(1, sizeof *unit + entries + lines);
     if (unit != NULL) {
         unit->config = *config;
+        unit->status.state = (uint8_t)config->state;
+        unit->lines = journal ? (char *)&unit->entry[config->ring] : NULL;
         answer = fill(unit, callers, manager);
         if (answer != IDSM_DONE)
             free(unit);
@@ -305,11 +318,6 @@ uint8_t idsm_raw_init(const uint8_t *text, size_t bytes, word *callers, size_t c
 static struct entry *new_entry(struct unit *unit)
 {
     return unit->waiting < unit->config.ring ? &unit->entry[unit->waiting++] : NULL;
-}
-
-static int has_class(const struct config *config, size_t bytes)
-{
-    return config->classes > 0 && bytes <= config->size[config->classes - 1];
 }
 
 /* Whether a caller may not make a call; else it has made one more. */
@@ -337,25 +345,29 @@ uint8_t idsm_raw_report(word *caller, uint16_t event, uint16_t count, uint8_t ha
         unit->lost_events++;
         answer = IDSM_LOST;
     } else {
-        struct entry made = {stamp, event, count, 0, has_stamp, 0, 0, {0}};
-        made.bytes = (uint16_t)(has_class(&unit->config, bytes) ? bytes : 0);
-        *entry = made;
-        if (made.bytes > 0)
-            memcpy(entry->context, context, bytes);
-        if (made.bytes != bytes) {
-            unit->lost_contexts++;
-            answer = IDSM_WITHOUT_CONTEXT;
+        struct entry made = {stamp, caller->at->calls - 1, 0, event, count, 0, caller->at->number, has_stamp, 0, 0, 0, 0, {0}};
+        while (made.class_index < unit->config.classes && bytes > unit->config.size[made.class_index])
+            made.class_index++;
+        made.is_missing = bytes > 0 && made.class_index == unit->config.classes;
+        if (bytes > 0 && !made.is_missing) {
+            made.bytes = (uint16_t)bytes;
+            made.claim = unit->claims[made.class_index]++;
+            memcpy(made.context, context, bytes);
         }
+        *entry = made;
+        unit->lost_contexts += made.is_missing;
+        answer = made.is_missing ? IDSM_WITHOUT_CONTEXT : IDSM_DONE;
     }
     unlock(unit);
     return answer;
 }
 
-static uint8_t control(struct part *caller, struct entry made)
+static uint8_t control(struct part *caller, uint16_t event, uint8_t mode)
 {
     struct unit *unit = caller->unit;
     if (is_spent(caller))
         return IDSM_SPENT;
+    struct entry made = {0, caller->calls - 1, 0, event, 0, 0, caller->number, 0, 1, mode, 0, 0, {0}};
     lock(unit);
     struct entry *entry = new_entry(unit);
     if (entry != NULL)
@@ -366,18 +378,16 @@ static uint8_t control(struct part *caller, struct entry made)
 
 uint8_t idsm_raw_set_state(word *caller, uint8_t state)
 {
-    struct entry made = {0, MOST_EVENTS, 0, 0, 0, 1, state, {0}};
-    return caller->at->turns ? IDSM_OTHER_ROLE : control(caller->at, made);
+    return caller->at->turns ? IDSM_OTHER_ROLE : control(caller->at, MOST_EVENTS, state);
 }
 
 uint8_t idsm_raw_set_mode(word *caller, uint16_t event, uint8_t mode)
 {
-    struct entry made = {0, event, 0, 0, 0, 1, mode, {0}};
     if (mode > IDSM_MODE_DETAILED_BYPASSING)
         return IDSM_OUT_OF_RANGE;
     if (caller->at->turns)
         return IDSM_OTHER_ROLE;
-    return event < caller->at->unit->config.events ? control(caller->at, made) : IDSM_UNKNOWN_EVENT;
+    return event < caller->at->unit->config.events ? control(caller->at, event, mode) : IDSM_UNKNOWN_EVENT;
 }
 
 static uint64_t most_bytes(const struct config *config)
@@ -420,6 +430,32 @@ static uint8_t *write_message(uint8_t *at, const struct config *config, const st
     return at + bytes;
 }
 
+/* The line of an entry for a journal (docs/FORMATS.md). */
+static char *write_line(char *at, const struct entry *entry)
+{
+    at += sprintf(at, "%c %u %" PRIu64, entry->is_mode ? 'C' : 'R', entry->caller, entry->call);
+    if (entry->event == MOST_EVENTS)
+        return at + sprintf(at, " S %u\n", entry->mode);
+    if (entry->is_mode)
+        return at + sprintf(at, " M %u %s\n", entry->event, mode_names[entry->mode]);
+    at += sprintf(at, " %u %u ", entry->event, entry->count);
+    at += entry->has_stamp ? sprintf(at, "%016" PRIx64 " ", entry->stamp) : sprintf(at, "- ");
+    if (entry->bytes > 0)
+        at += sprintf(at, "%u:%" PRIu64 ":", entry->class_index, entry->claim);
+    for (uint16_t i = 0; i < entry->bytes; i++)
+        at += sprintf(at, "%02x", entry->context[i]);
+    return at + sprintf(at, "%s\n", entry->bytes > 0 ? "" : entry->is_missing ? "!" : "-");
+}
+
+static void write_lines(struct unit *unit)
+{
+    char *at = unit->lines;
+    at += sprintf(at, "T %" PRIu64 " %u %u 0\n", unit->status.tick, unit->lost_events, unit->lost_contexts);
+    for (uint32_t i = 0; i < unit->waiting; i++)
+        at = write_line(at, &unit->entry[i]);
+    unit->length = (size_t)(at - unit->lines);
+}
+
 static void take_entries(struct unit *unit, uint8_t *buffer, idsm_sent *sent)
 {
     uint8_t *at = buffer;
@@ -427,7 +463,9 @@ static void take_entries(struct unit *unit, uint8_t *buffer, idsm_sent *sent)
         const struct entry *entry = &unit->entry[i];
         if (entry->is_mode && entry->event < MOST_EVENTS)
             unit->config.event[entry->event].mode = entry->mode;
-        else if (!entry->is_mode && unit->config.event[entry->event].mode != IDSM_MODE_OFF) {
+        else if (entry->is_mode)
+            unit->status.state = entry->mode;
+        else if (unit->config.event[entry->event].mode != IDSM_MODE_OFF) {
             at = write_message(at, &unit->config, entry);
             sent->messages++;
         }
@@ -436,6 +474,9 @@ static void take_entries(struct unit *unit, uint8_t *buffer, idsm_sent *sent)
     sent->entries = unit->waiting;
     sent->lost_events = unit->lost_events;
     sent->lost_contexts = unit->lost_contexts;
+    sent->quiet = sent->entries + sent->lost_events + sent->lost_contexts == 0;
+    if (unit->lines != NULL)
+        write_lines(unit);
     unit->waiting = unit->lost_events = unit->lost_contexts = 0;
 }
 
@@ -446,14 +487,19 @@ uint8_t idsm_raw_main(word *manager, uint64_t tick, uint8_t *buffer, size_t byte
         return IDSM_OTHER_ROLE;
     if (bytes < most_bytes(&unit->config))
         return IDSM_SMALL_BUFFER;
-    if (tick < unit->tick)
+    if (tick < unit->status.tick)
         return IDSM_TICK_BACK;
     if (tick > (uint64_t)1 << 62)
         return IDSM_TICK_TOO_LARGE;
-    unit->tick = tick;
+    unit->status.tick = tick;
     lock(unit);
     take_entries(unit, buffer, sent);
     unlock(unit);
+    sent->turn = unit->status.turns++;
+    unit->status.entries += sent->entries;
+    unit->status.lost_events += sent->lost_events;
+    unit->status.lost_contexts += sent->lost_contexts;
+    unit->status.messages += sent->messages;
     return IDSM_DONE;
 }
 
@@ -475,6 +521,39 @@ uint8_t idsm_raw_late(word *manager, uint8_t class_index, uint64_t *late)
     if (!manager->at->turns)
         return IDSM_OTHER_ROLE;
     return class_index < manager->at->unit->config.classes ? IDSM_DONE : IDSM_OUT_OF_RANGE;
+}
+
+uint8_t idsm_raw_status(word *manager, idsm_status *status)
+{
+    if (manager->at->turns)
+        *status = manager->at->unit->status;
+    return manager->at->turns ? IDSM_DONE : IDSM_OTHER_ROLE;
+}
+
+uint8_t idsm_raw_mode(word *manager, uint16_t event, uint8_t *mode)
+{
+    const struct config *config = &manager->at->unit->config;
+    if (!manager->at->turns)
+        return IDSM_OTHER_ROLE;
+    *mode = event < config->events ? config->event[event].mode : 0;
+    return event < config->events ? IDSM_DONE : IDSM_OUT_OF_RANGE;
+}
+
+uint8_t idsm_raw_calls(word *caller, uint64_t *calls)
+{
+    *calls = caller->at->turns ? 0 : caller->at->calls;
+    return caller->at->turns ? IDSM_OTHER_ROLE : IDSM_DONE;
+}
+
+uint8_t idsm_raw_journal(word *manager, uint64_t at, uint8_t *buffer, size_t size, uint64_t *bytes)
+{
+    const struct unit *unit = manager->at->unit;
+    *bytes = 0;
+    if (!manager->at->turns || unit->lines == NULL)
+        return manager->at->turns ? IDSM_OUT_OF_RANGE : IDSM_OTHER_ROLE;
+    for (; *bytes < size && at < unit->length; at++)
+        buffer[(*bytes)++] = (uint8_t)unit->lines[at];
+    return IDSM_DONE;
 }
 
 uint8_t idsm_raw_close(word *handle)

@@ -2,7 +2,7 @@
 use Rattle.std.proofs.Common.{◌≡◌, ℕ, suc, ◌+◌, ◌<◌, true≢false, None, List, [], ◌∷◌, length, refl, sym, ap, subst, ◌∙◌, arith, sum_by, slice_index_or, Ok}
 use Rattle.std.proofs.lemmas.List.Sums.{sum_by-cons}
 use Rattle.std.specs.List.{All}
-use Rattle.std.specs.Prelude.{codes, Result, Err}
+use Rattle.std.specs.Prelude.{codes, Bool, Err}
 use Rattle.std.specs.Str.{chars, is_utf8}
 use Rattle.serde_json.proofs.OnLiterals.{serde_json_on_literals}
 use Rattle.ids_config.specs.Parts.{Parts, plain_event}
@@ -101,7 +101,7 @@ module _ {setup : Setup} (new : IsNewSetup the_config setup) where
       }
 
   -- and after that a close
-  pub may_close : {manager : Manager} {buffer after : List ℕ} {room : ℕ} → TurnMade 1 setup.manager buffer manager after → room ≡ 128
+  pub may_close : {manager : Manager} {buffer after : List ℕ} {quiet : Bool} {room : ℕ} → TurnMade 1 setup.manager buffer quiet manager after → room ≡ 128
       → MayTurn 2 manager room
   may_close {manager} made is =
       let most : most_bytes (manager_shares manager) ≡ 128 = ap most_bytes (ap manager_shares made.same) ∙ new.most_is in

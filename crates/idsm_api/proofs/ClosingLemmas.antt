@@ -1,5 +1,5 @@
 -- All callers of a manager, and how they come back to it.
-use Rattle.idsm_api.proofs.Names.{common_steps, ◌≡◌, ℕ, ◌∙◌, List, [], ◌∷◌, length, map, refl, sym, arith, length-map, Caller, Manager, IsFitCaller, manager_shares, at_length, there, accepted_in, desk_memo, PassMemo, lost_events, missing_in, pass_memo, room_of, ◌<◌, slice_index_or, sum_by, AreCountsOf, AreAllPasses}
+use Rattle.idsm_api.proofs.Names.{common_steps, ◌≡◌, ℕ, ◌∙◌, List, [], ◌∷◌, map, refl, sym, arith, length-map, Caller, Manager, manager_shares, at_length, there, accepted_in, desk_memo, PassMemo, lost_events, missing_in, pass_memo, room_of, sum_by, AreCountsOf, AreAllPasses}
 use Rattle.law_closing.proofs.{or_at}
 use Rattle.main_function.specs.declared.rest.Totals.{Totals}
 use Rattle.report_queue.proofs.{at_map_back}

@@ -2,3 +2,4 @@ pub mod CallerLemmas
 pub mod ClosingLemmas
 pub mod MakingLemmas
 pub mod Names
+mod QuietLemmas

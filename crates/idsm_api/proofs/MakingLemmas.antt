@@ -1,14 +1,14 @@
 -- What is made is fit.
 use Rattle.idsm_api.proofs.Names.{◌<◌, slice_index_or, ◌≡◌, ℕ, ◌∙◌, List, length, refl, sym, ap, length-map, All, Parts, Pass, Shared, Caller, Manager as IdsManager, caller_shares, chain_events, chain_kept, chain_stands, manager_shares, at_length, there, Buffer, queue_seats, sizes_of, PassMemo, at_map, most_sent, IsNewManager}
 use Rattle.law_closing.proofs.PlaceLemmas.{or_at}
-use Rattle.filter_chain.specs.declared.log.Unlogged.{Unlogged}
+use Rattle.idsm_api.specs.declared.text.TurnText.{TurnText}
 use Rattle.main_function.specs.declared.manager.Manager.{Manager}
 use Rattle.event_chain.specs.Chained.{Chained}
 use Rattle.ids_types.specs.declared.class_spec.ClassSpec.{ClassSpec}
 use Rattle.report_api.specs.Making.{IsNewPass}
 use Rattle.idsm_api.specs.{AreAllCallers, passes_of, most_bytes}
 
-module _ {config : Parts} {shared : Shared} {passes : List Pass} {m : Manager (Chained Buffer) Unlogged}
+module _ {config : Parts} {shared : Shared} {passes : List Pass} {m : Manager (Chained Buffer) TurnText}
     (new : IsNewManager chain_stands chain_events chain_kept config shared passes m) where
   module _ (callers : List Caller) (are : passes_of callers ≡ passes) where
     -- the pass of each caller is new

@@ -9,7 +9,8 @@ use Rattle.idsm_api.specs.declared.caller.Caller.{Caller}
 use Rattle.idsm_api.specs.declared.manager.Manager.{Manager}
 use Rattle.idsm_api.specs.Callers.{AreCounted}
 use Rattle.idsm_api.specs.Making.{passes_of}
-use Rattle.idsm_api.specs.Roles.{chain_kept, chain_stands, manager_shares, unlogged}
+use Rattle.idsm_api.specs.Roles.{chain_kept, chain_stands, manager_shares}
+use Rattle.idsm_api.specs.Text.{Notes}
 use Rattle.idsm_api.specs.Turning.{MayTurn, NothingMade, Refuses}
 use Rattle.idsm_api.specs.Writing.{IsWritten}
 
@@ -20,7 +21,7 @@ no_totals = record { entries = 0; lost_events = 0; lost_contexts = 0 }
 -- all these callers came back, in few steps, a last turn of this tick took all that was left, and all its messages are written
 pub record CloseMade (tick : ℕ) (old : Manager) (callers : List Caller) (buffer : List ℕ) (new : Manager) (after : List ℕ) : Type 0 where
   pub may : MayTurn tick old (length buffer)
-  pub closed : Closed chain_stands unlogged chain_kept (manager_shares old) tick (map pass_memo (passes_of callers)) old.manager new.manager
+  pub closed : Closed chain_stands Notes chain_kept (manager_shares old) tick (map pass_memo (passes_of callers)) old.manager new.manager
   pub quick : IsQuick (manager_shares old) (length callers) old.manager.desk new.manager.desk
   pub shares : manager_shares new ≡ manager_shares old
   pub written : IsWritten new.manager.out.sent buffer after

@@ -1,5 +1,5 @@
 -- A caller and a manager with what they share, and what holds of each between two calls.
-use Rattle.std.specs.Prelude.{◌≡◌, ℕ, ◌≤◌, List, [], length, reverse, vec_capacity, ⊤}
+use Rattle.std.specs.Prelude.{◌≡◌, ℕ, ◌≤◌, List, [], length, reverse, vec_capacity}
 use Rattle.std.specs.Arc.{arc_value}
 use Rattle.ids_types.specs.Turns.{Turn}
 use Rattle.ids_config.specs.Parts.{Parts}
@@ -11,7 +11,7 @@ use Rattle.event_chain.specs.Standing.{Stands as ChainStands}
 use Rattle.report_queue.specs.Parts.{queue_positions, queue_seats}
 use Rattle.report_api.specs.Passes.{IsPassOf, sizes_of}
 use Rattle.report_api.specs.declared.shared.Shared.{Shared}
-use Rattle.filter_chain.specs.declared.log.Unlogged.{Unlogged}
+use Rattle.idsm_api.specs.declared.text.TurnText.{TurnText}
 use Rattle.main_function.specs.Standing.{IsManagerOf, Stands, largest_size}
 use Rattle.main_function.specs.declared.manager.Manager.{Manager as Over}
 use Rattle.idsm_api.specs.declared.caller.Caller.{Caller}
@@ -29,12 +29,9 @@ manager_shares port = arc_value port.shared
 abbrev pub chain_stands : Chained Buffer → Parts → List Turn → Type 0
 chain_stands chain config turns = ChainStands (λ (buf : Buffer). buf.bytes) config (reverse turns) chain
 
--- the manager over the filter chain, without a log, which notes nothing
+-- the manager over the filter chain, which may keep the lines of the last turn
 abbrev pub ChainManager : Type 0
-ChainManager = Over (Chained Buffer) Unlogged
-
-abbrev pub unlogged : Unlogged → Turn → Unlogged → Type 0
-unlogged old turn new = ⊤
+ChainManager = Over (Chained Buffer) TurnText
 
 -- how many events the filter chain knows
 abbrev pub chain_events : Chained Buffer → ℕ
@@ -62,5 +59,6 @@ pub record IsFitManager (port : Manager) : Type 0 where
   pub is_manager : IsManagerOf chain_events chain_kept (manager_shares port) port.manager
   pub most_is : port.most ≡ most_bytes (manager_shares port)
   pub classes_are : port.classes ≡ length (sizes_of (manager_shares port))
+  pub events_are : port.events ≡ (manager_shares port).terms.events
   pub none_back : port.passes.items ≡ []
   pub room_for_all : queue_seats (manager_shares port).queue ≤ vec_capacity port.passes

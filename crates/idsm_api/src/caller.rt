@@ -1,6 +1,6 @@
 //! A caller with what it shares.
-ghost use Rattle.std.specs.Prelude.{None, []};
-ghost use Rattle.idsm_api.specs.{IsSameCaller, ReportDoes, Reports, Sets, asked_mode, asked_state, IsFitCaller};
+ghost use Rattle.std.specs.Prelude.{◌≡◌, None, [], length};
+ghost use Rattle.idsm_api.specs.{IsSameCaller, ReportDoes, Reports, Sets, asked_mode, asked_state, IsFitCaller, log_of, number_of};
 ghost use Rattle.report_api.specs.Answers.{given};
 
 use crate::answer::{Answer, answer_of_control, answer_of_report};
@@ -19,6 +19,22 @@ pub struct Caller {
 }
 
 impl Caller {
+    /// Which caller it is, from 0.
+    pub fn number(&self) -> u8
+        requires { IsFitCaller self.now }
+        ensures { result ≡ number_of self.now }
+    {
+        self.pass.caller()
+    }
+
+    /// How many calls it made. A call that was refused is none.
+    pub fn calls(&self) -> u64
+        requires { IsFitCaller self.now }
+        ensures { result ≡ length (log_of self.now).calls }
+    {
+        self.pass.calls()
+    }
+
     /// Reports a security event, seen `count` times from 1 to 65,535, with its context data. No bytes are no context.
     /// A report without an event buffer is counted as lost, and one without a context data buffer goes without it.
     /// Steps: as `report_api::Pass::report`. By: `told` (`Reports`); answer `Answer`, no NoMemory.

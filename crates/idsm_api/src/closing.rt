@@ -4,7 +4,7 @@ ghost use Rattle.idsm_api.specs.{no_totals, passes_of, nothing_told};
 
 use crate::answer::Answer;
 use crate::caller::Caller;
-use crate::turning::{Told, refused};
+use crate::turning::{Told, TurnAnswer};
 use main_function::Totals;
 use report_api::Pass;
 
@@ -25,7 +25,7 @@ pub(crate) fn not_closed(answer: Answer) -> CloseAnswer
 {
     CloseAnswer {
         answer,
-        told: refused(answer).told,
+        told: TurnAnswer::refused(answer).told,
         totals: Totals {
             entries: 0,
             lost_events: 0,

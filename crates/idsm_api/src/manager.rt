@@ -4,14 +4,16 @@ ghost use Rattle.ids_types.specs.Turns.{Turn};
 ghost use Rattle.ids_config.specs.Parts.{Parts};
 ghost use Rattle.filter_chain.specs.History.{rows_of};
 ghost use Rattle.idsm_api.specs.{AreAllCallers, AreCounted, CloseMade, CloseTells, CountsTell, IsFitManager, StandsFor, manager_shares, most_bytes, MayTurn, Refuses, TurnMade, TurnTells, told_by, told_in, Done, Caller as CallerValue};
-ghost use Rattle.idsm_api.specs.Reading.{LateTells, RowTells};
+ghost use Rattle.idsm_api.specs.Reading.{LateTells, ModeTells, RowTells, StatusTells};
+ghost use Rattle.idsm_api.specs.Text.{LinesTell};
 
 use crate::answer::Answer;
 use crate::caller::Caller;
 use crate::closing::{CloseAnswer, not_closed, take_passes};
-use crate::reading::{RowAnswer, hand_over_row};
-use crate::turning::{ChainManager, TurnAnswer, refused, told_in};
+use crate::reading::{RowAnswer, Status, hand_over_row};
+use crate::turning::{ChainManager, TurnAnswer, is_quiet, told_in};
 use crate::writing::put;
+use ids_types::{EventIndex, Mode};
 use report_api::{Pass, Shared};
 use std::sync::Arc;
 
@@ -33,8 +35,9 @@ pub struct Manager {
     pub(crate) passes: Vec<Pass>,
     // How many bytes a buffer for the messages of a turn has at least.
     pub(crate) most: u64,
-    // How many classes of context data buffers there are.
+    // How many classes of context data buffers there are, and how many events.
     pub(crate) classes: u8,
+    pub(crate) events: u64,
 }
 
 impl Manager {
@@ -49,12 +52,12 @@ impl Manager {
     /// Makes a turn, and writes its messages to the front of the buffer, one after the other. The tick is at least that of
     /// the turn before, and at most 2^62. A refusal makes no turn and changes nothing: it comes before the turn where the
     /// buffer is too small.
-    /// Steps: as `main_function::Manager::turn` over an `EventChain`, and the bytes of its messages; none of these
-    /// where it is refused. By: `told` (`TurnTells`: `quick`); answer `TurnAnswer`, no NoMemory.
+    /// Steps: as `main_function::Manager::turn` over an `EventChain`, one `EventChain::closes`, and the bytes of its
+    /// messages; none of these if it is refused. By: `told` (`TurnTells`: `quick`); answer `TurnAnswer`, no NoMemory.
     pub fn turn(&mut self, tick: u64, buffer: &mut [u8]) -> TurnAnswer
         requires fit { IsFitManager self.old }
         ensures fit { IsFitManager self.new }
-        ensures told { TurnTells tick self.old buffer.old result.answer self.new buffer.new }
+        ensures told { TurnTells tick self.old buffer.old result.answer result.quiet self.new buffer.new }
         ensures numbers { result.told ≡ told_by result.answer self.new.manager }
         ensures within { result.told.bytes ≤ length buffer.new }
         ensures made { MayTurn tick self.old (length buffer.old) → result.answer ≡ Done }
@@ -62,7 +65,7 @@ impl Manager {
     {
         match self.check(tick, buffer.len()) {
             Ok(()) => self.step(tick, buffer),
-            Err(refusal) => refused(refusal),
+            Err(refusal) => TurnAnswer::refused(refusal),
         }
     }
 
@@ -92,10 +95,12 @@ impl Manager {
         requires fit { IsFitManager self.old }
         requires may { MayTurn tick self.old (length buffer.old) }
         ensures fit { IsFitManager self.new }
-        ensures made { TurnMade tick self.old buffer.old self.new buffer.new }
-        ensures told { result ≡ record { answer = Done; told = told_in self.new.manager } }
+        ensures made { TurnMade tick self.old buffer.old result.quiet self.new buffer.new }
+        ensures answer { result.answer ≡ Done }
+        ensures told { result.told ≡ told_in self.new.manager }
         ensures within { result.told.bytes ≤ length buffer.new }
     {
+        let closes = self.manager.chain().closes(tick);
         let Ok(out) = self.manager.turn(&self.shared, tick) else {
             unreachable!()
         };
@@ -103,6 +108,7 @@ impl Manager {
         TurnAnswer {
             answer: Answer::Done,
             told: told_in(&self.manager),
+            quiet: is_quiet(closes, &self.manager),
         }
     }
 
@@ -150,6 +156,44 @@ impl Manager {
             return Err(Answer::TickTooLarge);
         }
         Ok(())
+    }
+
+    /// The lines of the last turn as a journal has them, none before the first: `OutOfRange` if no journal was asked for,
+    /// `SmallBuffer` if there was no room for them.
+    pub fn journal(&self) -> Result<&[u8], Answer>
+        ensures { LinesTell self.now.manager.log result }
+    {
+        self.manager.log().lines()
+    }
+
+    /// What all turns so far did.
+    pub fn status(&self) -> Status
+        requires { IsFitManager self.now }
+        ensures { (config : Parts) (turns : List Turn) → StandsFor config turns self.now → StatusTells config turns result }
+    {
+        let totals = self.manager.totals();
+        Status {
+            turns: self.manager.turns(),
+            tick: self.manager.head().tick,
+            entries: totals.entries,
+            lost_events: totals.lost_events,
+            lost_contexts: totals.lost_contexts,
+            messages: self.manager.messages(),
+            limited: self.manager.limited(),
+            records: u32::from(self.rows()),
+            state: self.manager.chain().state(),
+        }
+    }
+
+    /// The reporting mode of an event, as the last turn left it: `None` if there is no such event.
+    pub fn mode(&self, event: EventIndex) -> Option<Mode>
+        requires { IsFitManager self.now }
+        ensures { ModeTells self.now event result }
+    {
+        if u64::from(event.0) >= self.events {
+            return None;
+        }
+        Some(self.manager.chain().mode(event))
     }
 
     /// How many records the event memory has.

@@ -29,6 +29,26 @@ pub struct RowAnswer {
     pub row: Option<RowTold>,
 }
 
+/// What all turns so far did, laid out as C has it.
+#[repr(C)]
+#[derive(Clone, Copy)]
+pub struct Status {
+    /// How many turns there were, and the tick of the last, 0 before the first.
+    pub turns: u64,
+    pub tick: u64,
+    /// How many reports and controls they took, how many reports were lost and how many miss their context.
+    pub entries: u64,
+    pub lost_events: u64,
+    pub lost_contexts: u64,
+    /// How many messages they sent, and how many events the limits held back, each counted up to 2^64 - 1.
+    pub messages: u64,
+    pub limited: u64,
+    /// How many records the event memory has.
+    pub records: u32,
+    /// The block state, as the last turn left it.
+    pub state: u8,
+}
+
 // What a record tells.
 fn told_of(row: &Row<'_>) -> RowTold
     ensures { result ≡ row_in (plain_row row.now) }

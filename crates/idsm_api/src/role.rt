@@ -1,13 +1,13 @@
 //! A caller or a manager: what one handle can have.
 ghost use Rattle.report_api.specs.Answers.{given};
-ghost use Rattle.idsm_api.specs.{asked_mode, asked_state, IsFit, RoleLate, RoleMost, RoleReports, RoleRow, RoleSets, RoleTurns, RoleRows};
+ghost use Rattle.idsm_api.specs.{asked_mode, asked_state, IsFit, RoleCalls, RoleJournal, RoleLate, RoleMode, RoleMost, RoleReports, RoleRow, RoleSets, RoleStatus, RoleTurns, RoleRows};
 
 use crate::answer::Answer;
 use crate::caller::Caller;
 use crate::manager::Manager;
 use crate::number::{NumberAnswer, told, untold};
-use crate::reading::RowAnswer;
-use crate::turning::{TurnAnswer, refused};
+use crate::reading::{RowAnswer, Status};
+use crate::turning::TurnAnswer;
 use ids_types::{EventIndex, Mode, Stamp};
 
 /// A caller or a manager.
@@ -72,7 +72,7 @@ impl Role {
     {
         match self {
             Role::Turns(manager) => manager.turn(tick, buffer),
-            Role::Calls(_) => refused(Answer::OtherRole),
+            Role::Calls(_) => TurnAnswer::refused(Answer::OtherRole),
         }
     }
 
@@ -124,6 +124,54 @@ impl Role {
                 Some(late) => told(u64::from(late)),
                 None => untold(Answer::OutOfRange),
             },
+            Role::Calls(_) => untold(Answer::OtherRole),
+        }
+    }
+
+    /// A caller's `calls`.
+    /// By: `RoleCalls`.
+    pub fn calls(&self) -> NumberAnswer
+        requires { IsFit self.now }
+        ensures { RoleCalls self.now result }
+    {
+        match self {
+            Role::Calls(caller) => told(caller.calls()),
+            Role::Turns(_) => untold(Answer::OtherRole),
+        }
+    }
+
+    /// A manager's `mode`, `OutOfRange` if there is no such event.
+    /// By: `RoleMode`.
+    pub fn mode(&self, event: EventIndex) -> Result<Mode, Answer>
+        requires { IsFit self.now }
+        ensures { RoleMode self.now event result }
+    {
+        match self {
+            Role::Turns(manager) => manager.mode(event).ok_or(Answer::OutOfRange),
+            Role::Calls(_) => Err(Answer::OtherRole),
+        }
+    }
+
+    /// A manager's `status`.
+    /// By: `RoleStatus`.
+    pub fn status(&self) -> Result<Status, Answer>
+        requires { IsFit self.now }
+        ensures { RoleStatus self.now result }
+    {
+        match self {
+            Role::Turns(manager) => Ok(manager.status()),
+            Role::Calls(_) => Err(Answer::OtherRole),
+        }
+    }
+
+    /// Part of a manager's `journal`: as many bytes as fit, from byte `at` on, go to the front of the buffer, and it answers
+    /// how many: 0 at the end.
+    /// Steps: the bytes that are written. By: `RoleJournal`.
+    pub fn journal(&self, at: u64, buffer: &mut [u8]) -> NumberAnswer
+        ensures { RoleJournal self.now at buffer.old result buffer.new }
+    {
+        match self {
+            Role::Turns(manager) => manager.manager.log().put_part(at, buffer),
             Role::Calls(_) => untold(Answer::OtherRole),
         }
     }

@@ -5,4 +5,5 @@ pub mod Making
 pub mod Modes
 pub mod Opened
 pub mod Reading
+pub mod Status
 pub mod Turning

@@ -9,7 +9,7 @@ use Rattle.ids_config.specs.declared.fault.ConfigPlace.{ConfigPlace}
 use Rattle.ids_config.specs.declared.fault.ConfigPlace.TheVariants.{Top, Class, Event}
 use Rattle.config_json.specs.declared.fault.JsonFault.{JsonFault}
 use Rattle.config_json.specs.declared.fault.JsonFault.TheVariants as faults
-use Rattle.idsm_api.specs.{code_of, IsFit, IsNewSetup}
+use Rattle.idsm_api.specs.{code_of, IsFit, IsNewSetup, IsNewText}
 use Rattle.idsm_api.specs.declared.answer.Answer.{Answer}
 use Rattle.idsm_api.specs.declared.answer.Answer.TheVariants.{Done, OutOfRange, NoMemory, Configuration, Occupied}
 use Rattle.idsm_api.specs.declared.caller.Caller.{Caller}
@@ -72,17 +72,18 @@ IsMade (Ok config) setup = IsNewSetup config setup
 IsMade (Err fault) setup = ⊥
 
 -- these are all callers of the configuration that was found, by their numbers, and their manager, all of them new
-pub record AreNew (found : Result Parts ConfigFault) (callers : List Role) (manager : Role) : Type 0 where
+pub record AreNew (journal : Bool) (found : Result Parts ConfigFault) (callers : List Role) (manager : Role) : Type 0 where
   pub setup : Setup
   pub is_made : IsMade found setup
+  pub text_is : IsNewText journal setup.manager.manager.log
   pub callers_are : callers ≡ caller_roles setup.callers.items
   pub manager_is : manager ≡ Turns setup.manager
 
 -- what the making of roles answers: all of them, the first fault of the configuration, or want of memory
-abbrev pub MakesRoles : Result Parts ConfigFault → Result Roles JsonFault → Type 0
-MakesRoles found (Ok roles) = AreNew found (roles_in roles.callers.items) roles.manager.value
-MakesRoles found (Err (faults.Config fault)) = found ≡ Err fault
-MakesRoles found (Err faults.NoMemory) = ⊤
+abbrev pub MakesRoles : Bool → Result Parts ConfigFault → Result Roles JsonFault → Type 0
+MakesRoles journal found (Ok roles) = AreNew journal found (roles_in roles.callers.items) roles.manager.value
+MakesRoles journal found (Err (faults.Config fault)) = found ≡ Err fault
+MakesRoles journal found (Err faults.NoMemory) = ⊤
 
 -- the handles are filled with the roles, or are not as many as its callers
 abbrev pub Fills : Roles → List (Option Role) → Option Role → Bool → List (Option Role) → Option Role → Type 0
@@ -90,18 +91,18 @@ Fills roles old manager true new after = (new ≡ map Some (roles_in roles.calle
 Fills roles old manager false new after = (length (roles_in roles.callers.items) ≢ length old) × NothingFilled old manager new after
 
 -- handle i has caller i of the configuration that was found, and the last one the manager
-pub record AllFilled (found : Result Parts ConfigFault) (new : List (Option Role)) (after : Option Role) : Type 0 where
+pub record AllFilled (journal : Bool) (found : Result Parts ConfigFault) (new : List (Option Role)) (after : Option Role) : Type 0 where
   pub callers : List Role
   pub manager : Role
-  pub are_new : AreNew found callers manager
+  pub are_new : AreNew journal found callers manager
   pub callers_in : new ≡ map Some callers
   pub manager_in : after ≡ Some manager
 
 -- the configuration that was found has another number of callers than there are handles
-pub record OtherNumber (found : Result Parts ConfigFault) (handles : List (Option Role)) : Type 0 where
+pub record OtherNumber (journal : Bool) (found : Result Parts ConfigFault) (handles : List (Option Role)) : Type 0 where
   pub callers : List Role
   pub manager : Role
-  pub are_new : AreNew found callers manager
+  pub are_new : AreNew journal found callers manager
   pub number : length callers ≢ length handles
 
 -- no configuration was found, for this fault
@@ -111,20 +112,20 @@ pub record FirstFault (found : Result Parts ConfigFault) (fault : Fault) : Type 
   pub fault_is : fault ≡ fault_of first
 
 -- each answer of an init over handles that had nothing, with its cause, for what was found of a configuration
-abbrev pub InitFinds : Result Parts ConfigFault → List (Option Role) → Option Role → Answer → List (Option Role) → Option Role → Fault → Type 0
-InitFinds found old manager Done new after fault = AllFilled found new after × (fault ≡ no_fault)
-InitFinds found old manager OutOfRange new after fault = OtherNumber found old × NothingFilled old manager new after × (fault ≡ no_fault)
-InitFinds found old manager Configuration new after fault = FirstFault found fault × NothingFilled old manager new after
-InitFinds found old manager NoMemory new after fault = NothingFilled old manager new after × (fault ≡ no_fault)
-InitFinds found old manager other new after fault = ⊥
+abbrev pub InitFinds : Bool → Result Parts ConfigFault → List (Option Role) → Option Role → Answer → List (Option Role) → Option Role → Fault → Type 0
+InitFinds journal found old manager Done new after fault = AllFilled journal found new after × (fault ≡ no_fault)
+InitFinds journal found old manager OutOfRange new after fault = OtherNumber journal found old × NothingFilled old manager new after × (fault ≡ no_fault)
+InitFinds journal found old manager Configuration new after fault = FirstFault found fault × NothingFilled old manager new after
+InitFinds journal found old manager NoMemory new after fault = NothingFilled old manager new after × (fault ≡ no_fault)
+InitFinds journal found old manager other new after fault = ⊥
 
 -- where one of the handles has something, nothing is looked for
-abbrev pub InitTells : Result Parts ConfigFault → List (Option Role) → Option Role → Answer → List (Option Role) → Option Role → Fault → Type 0
-InitTells found old manager Occupied new after fault =
+abbrev pub InitTells : Bool → Result Parts ConfigFault → List (Option Role) → Option Role → Answer → List (Option Role) → Option Role → Fault → Type 0
+InitTells journal found old manager Occupied new after fault =
     (is_taken (manager ∷ old) ≡ true) × NothingFilled old manager new after × (fault ≡ no_fault)
-InitTells found old manager answer new after fault =
-    (is_taken (manager ∷ old) ≡ false) × InitFinds found old manager answer new after fault
+InitTells journal found old manager answer new after fault =
+    (is_taken (manager ∷ old) ≡ false) × InitFinds journal found old manager answer new after fault
 
 -- an init answers the number of one of these
-abbrev pub Inits : Result Parts ConfigFault → List (Option Role) → Option Role → ℕ → List (Option Role) → Option Role → Fault → Type 0
-Inits found old manager code new after fault = (answer : Answer) × (code ≡ code_of answer) × InitTells found old manager answer new after fault
+abbrev pub Inits : Bool → Result Parts ConfigFault → List (Option Role) → Option Role → ℕ → List (Option Role) → Option Role → Fault → Type 0
+Inits journal found old manager code new after fault = (answer : Answer) × (code ≡ code_of answer) × InitTells journal found old manager answer new after fault

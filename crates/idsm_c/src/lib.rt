@@ -15,6 +15,7 @@ mod handle;
 mod loose;
 mod making;
 mod reading;
+mod status;
 mod turning;
 
 pub use handle::Handle;

@@ -1,5 +1,5 @@
 //! How handles are filled.
-ghost use Rattle.std.specs.Prelude.{◌≡◌, Some, length, map, IfOk, ◌∷◌};
+ghost use Rattle.std.specs.Prelude.{◌≡◌, ◌==◌, Some, length, map, not, IfOk, ◌∷◌};
 ghost use Rattle.std.specs.List.{All};
 ghost use Rattle.config_json.specs.Configured.{configuration};
 ghost use Rattle.idsm_api.specs.Handled.{IsFit};
@@ -8,7 +8,7 @@ ghost use Rattle.idsm_c.specs.Making.{AreFit, Fills, Inits, MakesRoles, NothingF
 use crate::handle::Handle;
 use config_json::JsonFault;
 use ids_config::{ConfigFault, ConfigPlace};
-use idsm_api::{Answer, Caller, Manager, Role};
+use idsm_api::{Answer, Caller, Manager, Role, With};
 use std::alloc::{AllocError, Global};
 
 /// The first fault of a configuration: its number, and where it stands. All is 0 where there is none.
@@ -95,11 +95,11 @@ fn boxed_callers(alloc: Global, callers: Vec<Caller>) -> Result<Vec<Box<Role, Gl
 }
 
 // The roles of the configuration that the bytes are the JSON text of.
-fn roles_of(alloc: Global, config: &[u8]) -> Result<Roles, JsonFault>
-    ensures made { MakesRoles (configuration config.now) result }
+fn roles_of(alloc: Global, config: &[u8], with: With) -> Result<Roles, JsonFault>
+    ensures made { MakesRoles with.journal (configuration config.now) result }
     ensures fit { IfOk result AreFit }
 {
-    let setup = Manager::make(alloc, config)?;
+    let setup = Manager::make_with(alloc, config, with)?;
     let callers = boxed_callers(alloc, setup.callers)?;
     let manager = boxed(alloc, Role::Turns(setup.manager))?;
     Ok(Roles { callers, manager })
@@ -129,26 +129,30 @@ fn fill(roles: Roles, callers: &mut [Handle], manager: &mut Handle) -> bool
     as_many
 }
 
-/// Fills a handle for each caller of the configuration that the bytes are the JSON text of, and one for the manager.
-/// Where it answers anything but done, no handle is changed.
+/// Fills a handle for each caller of the configuration that the bytes are the JSON text of, and one for the manager, which
+/// keeps the lines of its turns for a journal unless `journal` is 0. If it answers anything but done, no handle is changed.
 /// Steps: as `idsm_api::Manager::make`, and a box for each handle. Memory: made once. By: `Inits`; no other call
 /// answers want of memory.
 #[unsafe(no_mangle)]
 pub extern "C" fn idsm_raw_init(
     alloc: Global,
     config: &[u8],
+    journal: u8,
     callers: &mut [Handle],
     manager: &mut Handle,
     fault: &mut Fault,
 ) -> u8
-    ensures { Inits (configuration config.now) (contents_of callers.old) manager.old.content result
+    ensures { Inits (not (journal == 0)) (configuration config.now) (contents_of callers.old) manager.old.content result
         (contents_of callers.new) manager.new.content fault.new }
 {
     *fault = no_fault();
     if is_occupied(alloc, callers, manager) {
         return Answer::Occupied.code();
     }
-    match roles_of(alloc, config) {
+    let with = With {
+        journal: journal != 0,
+    };
+    match roles_of(alloc, config, with) {
         Ok(roles) => {
             if fill(roles, callers, manager) {
                 Answer::Done.code()

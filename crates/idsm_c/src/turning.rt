@@ -3,30 +3,36 @@ ghost use Rattle.std.specs.Prelude.{◌≡◌};
 ghost use Rattle.idsm_c.specs.Turning.{HandleTurns, sent_of};
 
 use crate::handle::Handle;
-use idsm_api::{Answer, Told};
+use idsm_api::{Answer, TurnAnswer};
 use std::alloc::Global;
 
 /// What a turn tells. All is 0 where none was made.
 #[repr(C)]
 #[derive(Clone, Copy)]
 pub struct Sent {
+    pub turn: u64,
     pub bytes: u64,
     pub entries: u64,
     pub lost_events: u64,
     pub lost_contexts: u64,
     pub messages: u64,
+    /// 1 if a journal may leave out its lines.
+    pub quiet: u8,
 }
 
 // What a turn told.
-fn sent_of(told: Told) -> Sent
-    ensures { result ≡ sent_of told }
+fn sent_of(turned: &TurnAnswer) -> Sent
+    ensures { result ≡ sent_of turned.now }
 {
+    let told = &turned.told;
     Sent {
+        turn: told.turn,
         bytes: told.bytes,
         entries: told.entries,
         lost_events: told.lost_events,
         lost_contexts: told.lost_contexts,
         messages: u64::from(told.messages),
+        quiet: u8::from(turned.quiet),
     }
 }
 
@@ -44,19 +50,13 @@ pub extern "C" fn idsm_raw_main(
 {
     match manager.take(alloc) {
         None => {
-            *sent = Sent {
-                bytes: 0,
-                entries: 0,
-                lost_events: 0,
-                lost_contexts: 0,
-                messages: 0,
-            };
+            *sent = sent_of(&TurnAnswer::refused(Answer::Unset));
             Answer::Unset.code()
         }
         Some(mut role) => {
             let turned = role.turn(tick, buffer);
             manager.put(role);
-            *sent = sent_of(turned.told);
+            *sent = sent_of(&turned);
             turned.answer.code()
         }
     }

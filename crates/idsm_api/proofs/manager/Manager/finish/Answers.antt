@@ -1,4 +1,4 @@
-use Rattle.idsm_api.proofs.Names.{◌+◌, ◌≤◌, length, rules, refl, sym, ap, arith, length-map, Output, manager_shares, queue_seats, vec_capacity}
+use Rattle.idsm_api.proofs.Names.{◌+◌, ◌≤◌, length, rules, refl, ap, arith, length-map, Output, manager_shares, queue_seats, vec_capacity}
 use Rattle.idsm_api.proofs.ClosingLemmas.{all_passes, counted, room_is}
 use Rattle.idsm_api.proofs.manager.Manager.finish.Goals as goal
 

@@ -5,8 +5,8 @@ use Rattle.report_api.specs.Terms.{is_sensor}
 use Rattle.idsm_api.proofs.MakingLemmas.{all_callers, as_many, classes_made, most_made, pass_new}
 use Rattle.idsm_api.proofs.manager.Manager.make_for.Goals as goal
 
-pub returns : goal.returns
-returns c =
+pub returns-clause-setup : goal.returns-clause-setup
+returns-clause-setup c =
     let config = parts_of c.parts.inside in
     let made = c.in_ok-made.made in
     let shared = arc_value c.in_ok-shared.shared in
@@ -31,6 +31,7 @@ returns c =
         most_is = rw (c.most_sent-most.ensures, c.largest.ensures, events) (most_made read_new);
         none_back = c.in_ok-passes.ensures.items;
         room_for_all = omega (arith, enough, many, new.making.callers_are);
+        events_are = events ∙ sym read_new.making.is_config.events;
         classes_are = classes ∙ sym (length-map c.parts.inside.classes.items class_of) ∙ classes_made read_new;
       };
       made_for = new.made_for;
