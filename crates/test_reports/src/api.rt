@@ -3,7 +3,7 @@ ghost use Rattle.std.specs.Prelude.{All, IfOk, IfSome};
 ghost use Rattle.idsm_api.specs.Roles.{IsFitCaller, IsFitManager};
 
 use ids_types::EventIndex;
-use idsm_api::{Caller, Manager, Role, Setup};
+use idsm_api::{Caller, Manager, Mode, Role, Setup, With};
 use std::alloc::Global;
 use std::test::*;
 
@@ -13,6 +13,9 @@ const CONFIG: &[u8] =
 
 /// How many bytes the messages of a turn have at most: 16 for each buffer, event and internal event.
 const MOST: usize = 112;
+
+/// The lines of the turn that takes two reports, after one was lost.
+const LINES: &[u8] = b"T 5 1 0 0\nR 0 0 0 1 - -\nR 0 1 0 1 - -\n";
 
 // The caller and its manager.
 fn setup(alloc: Global) -> Result<(Caller, Manager), Fail>
@@ -24,7 +27,7 @@ fn setup(alloc: Global) -> Result<(Caller, Manager), Fail>
             mut callers,
             manager,
         },
-    ) = Manager::make(alloc, CONFIG)
+    ) = Manager::make_with(alloc, CONFIG, With { journal: true })
     else {
         return Err("a manager".into());
     };
@@ -66,102 +69,57 @@ fn turn(manager: &mut Manager, tick: u64, buffer: &mut [u8]) -> [u64; 5]
     ]
 }
 
-// The answers to four reports, of which the second tells of no event, and the last finds no buffer.
-fn reports(caller: &mut Caller) -> [u8; 4]
-    requires { IsFitCaller caller.old }
-    ensures { IsFitCaller caller.new }
-{
-    [
-        report(caller, 1),
-        report(caller, 0),
-        report(caller, 1),
-        report(caller, 1),
-    ]
-}
-
-// Three turns: a buffer that is a byte too small makes none, the next one takes all, and a tick may not fall.
-fn turns(manager: &mut Manager, buffer: &mut [u8; MOST]) -> [[u64; 5]; 3]
-    requires { IsFitManager manager.old }
-    ensures { IsFitManager manager.new }
-{
-    [
-        turn(manager, 5, &mut buffer[1..]),
-        turn(manager, 5, buffer),
-        turn(manager, 4, buffer),
-    ]
-}
-
 // How often the event of a record occurred, its first and its last tick, and how many bytes of context it has.
 fn record_of(manager: &Manager, index: u16, buffer: &mut [u8]) -> Option<[u64; 4]> {
     let row = manager.row(index, buffer).row?;
     Some([u64::from(row.occurrences), row.first, row.last, row.bytes])
 }
 
-// What calls of a caller and its manager tell.
-#[derive(Drop)]
-struct Told {
-    reports: [u8; 4],
-    most_bytes: u64,
-    turns: [[u64; 5]; 3],
-    sent: [u8; 24],
-    rows: u16,
-    late: Option<u16>,
-    record: Option<[u64; 4]>,
-    no_row: u8,
-}
-
-// Makes them.
-fn told_by(caller: &mut Caller, manager: &mut Manager) -> Told
-    requires caller { IsFitCaller caller.old }
-    requires manager { IsFitManager manager.old }
-    ensures { IsFitManager manager.new }
+// The numbers of a manager's status.
+fn status_of(manager: &Manager) -> [u64; 9]
+    requires { IsFitManager manager.now }
 {
-    let mut buffer = [0; MOST];
-    let reports = reports(caller);
-    let most_bytes = manager.most_bytes();
-    let turns = turns(manager, &mut buffer);
-    let mut sent = [0; 24];
-    sent.copy_from_slice(&buffer[..24]);
-    Told {
-        reports,
-        most_bytes,
-        turns,
-        sent,
-        rows: manager.rows(),
-        late: manager.late(0),
-        record: record_of(manager, 0, &mut buffer),
-        no_row: manager.row(1, &mut buffer).answer.code(),
-    }
-}
-
-// Asks a manager for a report.
-fn other_role(manager: Manager) -> u8
-    requires { IsFitManager manager }
-{
-    let mut role = Role::Turns(manager);
-    role.report(EventIndex(0), 1, None, &[]).code()
-}
-
-// What they tell, and what the manager answers when it is asked for a report.
-fn all_told(alloc: Global) -> Result<(Told, u8), Fail> {
-    let (mut caller, mut manager) = setup(alloc)?;
-    let told = told_by(&mut caller, &mut manager);
-    Ok((told, other_role(manager)))
+    let status = manager.status();
+    [
+        status.turns,
+        status.tick,
+        status.entries,
+        status.lost_events,
+        status.lost_contexts,
+        status.messages,
+        status.limited,
+        u64::from(status.records),
+        u64::from(status.state),
+    ]
 }
 
 #[test]
 fn each_call_tells_its_number(rt: HostRuntime) -> Result<(), Fail> {
-    let (told, other_role) = all_told(rt.alloc())?;
-    assert!(rt; told.reports == [0, 6, 0, 3]);
-    assert!(rt; told.most_bytes == 112);
-    assert!(rt; told.turns == [[13, 0, 0, 0, 0], [0, 24, 3, 2, 1], [8, 0, 0, 0, 0]]);
+    let (mut caller, mut manager) = setup(rt.alloc())?;
+    let mut buffer = [0; MOST];
+    assert!(rt; report(&mut caller, 1) == 0);
+    assert!(rt; report(&mut caller, 0) == 6);
+    assert!(rt; report(&mut caller, 1) == 0);
+    assert!(rt; report(&mut caller, 1) == 3);
+    assert!(rt; caller.calls() == 3);
+    assert!(rt; manager.most_bytes() == 112);
+    assert!(rt; turn(&mut manager, 5, &mut buffer[1..]) == [13, 0, 0, 0, 0]);
+    assert!(rt; turn(&mut manager, 5, &mut buffer) == [0, 24, 3, 2, 1]);
+    assert!(rt; turn(&mut manager, 4, &mut buffer) == [8, 0, 0, 0, 0]);
+    let sent = b"\x10\x04\x80\0\x07\0\x01\0\x10\x04\x83\0\x2a\0\x01\0\x10\x04\x83\0\x2a\0\x01\0";
+    assert!(rt; buffer.starts_with(sent));
+    assert!(rt; manager.rows() == 1 && manager.late(0).is_none());
+    assert!(rt; record_of(&manager, 0, &mut buffer) == Some([2, 5, 5, 0]));
+    assert!(rt; manager.row(1, &mut buffer).answer.code() == 10);
+    assert!(rt; status_of(&manager) == [1, 5, 2, 1, 0, 3, 0, 1, 0]);
+    assert!(rt; manager.mode(EventIndex(1)) == Some(Mode::Detailed));
+    assert!(rt; manager.mode(EventIndex(2)).is_none());
+    assert!(rt; manager.journal().is_ok_and(|lines| lines == LINES));
     assert!(rt;
-        told.sent
-            == *b"\x10\x04\x80\0\x07\0\x01\0\x10\x04\x83\0\x2a\0\x01\0\x10\x04\x83\0\x2a\0\x01\0"
+        Role::Turns(manager)
+            .report(EventIndex(0), 1, None, &[])
+            .code()
+            == 2
     );
-    assert!(rt; told.rows == 1 && told.late.is_none());
-    assert!(rt; told.record == Some([2, 5, 5, 0]));
-    assert!(rt; told.no_row == 10);
-    assert!(rt; other_role == 2);
     Ok(())
 }

@@ -30,42 +30,6 @@ fn first(bytes: &[u8], len: u16) -> &[u8] {
     bytes.get(..usize::from(len)).unwrap_or(bytes)
 }
 
-// Makes a report.
-fn report(shared: &Shared, pass: &mut Pass, step: &str) -> Option<Report>
-    requires { IsPassOf shared.now pass.old }
-    ensures { IsSamePass shared.now pass.old pass.new }
-{
-    let event = EventIndex(short(step, 2));
-    let count = short(step, 3);
-    let bytes = [(pass.calls() % 256) as u8; 1025];
-    match word(step, 0) {
-        "event" => Some(pass.report_event(shared, event)),
-        "count" => Some(pass.report_count(shared, event, count)),
-        "context" => Some(pass.report_context(shared, event, first(&bytes, count))),
-        "report" => {
-            let stamp = Some(Stamp(number(step, 5)));
-            let context = first(&bytes, short(step, 4));
-            Some(pass.report(shared, event, count, stamp, context))
-        }
-        _ => None,
-    }
-}
-
-// Makes a control.
-fn control(shared: &Shared, pass: &mut Pass, step: &str) -> Option<Control>
-    requires { IsPassOf shared.now pass.old }
-    ensures { IsSamePass shared.now pass.old pass.new }
-{
-    match word(step, 0) {
-        "state" => Some(pass.state_changed(shared, (number(step, 2) % 256) as u8)),
-        "mode" => {
-            let mode = Mode::named(word(step, 3).as_bytes()).unwrap_or(Mode::Detailed);
-            Some(pass.set_mode(shared, EventIndex(short(step, 2)), mode))
-        }
-        _ => None,
-    }
-}
-
 /// Makes a call of a pass, and tells its answer.
 pub fn call(
     shared: &Shared,
@@ -76,14 +40,34 @@ pub fn call(
     requires { IsPassOf shared.now pass.old }
     ensures { IsSamePass shared.now pass.old pass.new }
 {
-    if let Some(report) = report(shared, pass, step) {
-        return tell_report(told, &report);
+    let event = EventIndex(short(step, 2));
+    let count = short(step, 3);
+    let bytes = [(pass.calls() % 256) as u8; 1025];
+    match word(step, 0) {
+        "event" => tell_report(told, &pass.report_event(shared, event)),
+        "count" => tell_report(told, &pass.report_count(shared, event, count)),
+        "context" => {
+            let context = first(&bytes, count);
+            tell_report(told, &pass.report_context(shared, event, context))
+        }
+        "report" => {
+            let stamp = Some(Stamp(number(step, 5)));
+            let context = first(&bytes, short(step, 4));
+            tell_report(told, &pass.report(shared, event, count, stamp, context))
+        }
+        "state" => {
+            let state = (number(step, 2) % 256) as u8;
+            tell_control(told, &pass.state_changed(shared, state))
+        }
+        "mode" => {
+            let mode = Mode::named(word(step, 3).as_bytes()).unwrap_or(Mode::Detailed);
+            tell_control(told, &pass.set_mode(shared, event, mode))
+        }
+        _ => {
+            tell(told, b"caller", u64::from(pass.caller()))?;
+            tell(told, b" calls", pass.calls())
+        }
     }
-    if let Some(control) = control(shared, pass, step) {
-        return tell_control(told, &control);
-    }
-    tell(told, b"caller", u64::from(pass.caller()))?;
-    tell(told, b" calls", pass.calls())
 }
 
 fn tell(told: &mut Vec<u8>, word: &[u8], number: u64) -> Result<(), NoMemory> {

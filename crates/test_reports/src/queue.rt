@@ -3,7 +3,6 @@ ghost use Rattle.std.specs.Prelude.{◌≡◌, ◌+◌, ◌<◌, All, IfSome};
 ghost use Rattle.report_queue.specs.{IsUnused, IsCallerOf, IsIdle, IsTakerOf, calls_of};
 
 use report_queue::{Cargo, MadeQueue, Queue, QueueSeat, Taker, make};
-use std::alloc::Global;
 use std::test::*;
 
 // Items that carry a number, each of which is admitted.
@@ -89,85 +88,30 @@ fn take(queue: &Queue<Numbers>, taker: &mut Taker<Numbers>) -> Told
     }
 }
 
-// The taker gives back what it took, and then a caller puts an item.
-fn put_behind(
-    queue: &Queue<Numbers>,
-    taker: &mut Taker<Numbers>,
-    seat: &mut QueueSeat<Numbers>,
-    payload: u64,
-) -> Told
-    requires taker { IsTakerOf queue.now taker.old }
-    requires seat { IsIdle queue.now seat.old × (calls_of seat.old < 1000) }
-    ensures taker { IsTakerOf queue.now taker.new }
-    ensures seat { IsIdle queue.now seat.new × (calls_of seat.new ≡ calls_of seat.old + 1) }
-{
-    taker.give_back(queue);
-    put(queue, seat, payload)
-}
-
-// One caller stalls between its claim and its fill. The other one puts while it does, and once it went on.
-fn stall(
-    queue: &Queue<Numbers>,
-    taker: &mut Taker<Numbers>,
-    first: &mut QueueSeat<Numbers>,
-    second: &mut QueueSeat<Numbers>,
-) -> [Told; 13]
-    requires taker { IsTakerOf queue.now taker.old }
-    requires first { IsUnused queue.now first.old }
-    requires second { IsUnused queue.now second.old }
-{
-    [
-        claim(queue, first),
-        put(queue, second, 10),
-        put(queue, second, 11),
-        put(queue, second, 12),
-        put(queue, second, 13),
-        take(queue, taker),
-        put_behind(queue, taker, second, 13),
-        fill(queue, first, 7),
-        take(queue, taker),
-        take(queue, taker),
-        take(queue, taker),
-        take(queue, taker),
-        put_behind(queue, taker, second, 13),
-    ]
-}
-
-// They do so at a queue of four positions.
-fn stalled(alloc: Global) -> Result<[Told; 13], Fail> {
+#[test]
+fn a_stalled_caller_holds_the_items_behind_it(rt: HostRuntime) -> Result<(), Fail> {
+    let room = Vec::from_elem(rt.alloc(), 0, 4)?;
     let MadeQueue {
         queue,
         mut taker,
         mut seats,
-    } = make::<Numbers>(alloc, 4, 2, (), Vec::from_elem(alloc, 0, 4)?)?;
-    let second = last_of(&queue, &mut seats);
-    let first = last_of(&queue, &mut seats);
-    match (first, second) {
-        (Some(mut first), Some(mut second)) => {
-            Ok(stall(&queue, &mut taker, &mut first, &mut second))
-        }
-        _ => Err("two callers".into()),
-    }
-}
-
-#[test]
-fn a_stalled_caller_holds_the_items_behind_it(rt: HostRuntime) -> Result<(), Fail> {
-    let told = stalled(rt.alloc())?;
-    let wanted = [
-        Told::Got(0),
-        Told::Got(1),
-        Told::Got(2),
-        Told::Got(3),
-        Told::Saw(4, 0),
-        Told::Unready(0),
-        Told::Saw(4, 0),
-        Told::Got(0),
-        Told::Took(0, 0, 7),
-        Told::Took(1, 0, 10),
-        Told::Took(1, 1, 11),
-        Told::Took(1, 2, 12),
-        Told::Got(4),
-    ];
-    assert!(rt; told == wanted);
+    } = make::<Numbers>(rt.alloc(), 4, 2, (), room)?;
+    let mut second = last_of(&queue, &mut seats).ok_or("two callers")?;
+    let mut first = last_of(&queue, &mut seats).ok_or("two callers")?;
+    assert!(rt; claim(&queue, &mut first) == Told::Got(0));
+    assert!(rt; put(&queue, &mut second, 10) == Told::Got(1));
+    assert!(rt; put(&queue, &mut second, 11) == Told::Got(2));
+    assert!(rt; put(&queue, &mut second, 12) == Told::Got(3));
+    assert!(rt; put(&queue, &mut second, 13) == Told::Saw(4, 0));
+    assert!(rt; take(&queue, &mut taker) == Told::Unready(0));
+    taker.give_back(&queue);
+    assert!(rt; put(&queue, &mut second, 13) == Told::Saw(4, 0));
+    assert!(rt; fill(&queue, &mut first, 7) == Told::Got(0));
+    assert!(rt; take(&queue, &mut taker) == Told::Took(0, 0, 7));
+    assert!(rt; take(&queue, &mut taker) == Told::Took(1, 0, 10));
+    assert!(rt; take(&queue, &mut taker) == Told::Took(1, 1, 11));
+    assert!(rt; take(&queue, &mut taker) == Told::Took(1, 2, 12));
+    taker.give_back(&queue);
+    assert!(rt; put(&queue, &mut second, 13) == Told::Got(4));
     Ok(())
 }

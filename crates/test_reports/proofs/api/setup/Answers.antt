@@ -13,7 +13,7 @@ are_fit (Ok config) setup new = (new.callers_fit, new.manager_fits)
 are_fit (Err fault) setup new = absurd new
 
 pub last_of-requires : goal.last_of-requires
-last_of-requires c = (are_fit _ c.in-Ok.field-0 c.in-Ok.ensures).0
+last_of-requires c = (are_fit _ c.in-Ok.field-0 c.in-Ok.ensures.setup).0
 
 pub returns-in-Some-clause-manager : goal.returns-in-Some-clause-manager
-returns-in-Some-clause-manager c = (are_fit _ c.in-Ok.field-0 c.in-Ok.ensures).1
+returns-in-Some-clause-manager c = (are_fit _ c.in-Ok.field-0 c.in-Ok.ensures.setup).1
