@@ -1,7 +1,6 @@
 -- `fold` and `check` of what a replay left.
-use Rattle.cmd_steps.proofs.Names.{Heard, List, Ok, ReplayFiles, Shelved, arith, bytes_eq-Decides, codes, does, file_of, fold_work, journal_text, judge, messages_of, only_said, over, over_then, reading_of, recorded_in, refl, told, ℕ, ◌∙◌, ◌≡◌, Files, Parts, Told, folded_in, file, check_judged, ◌>>=◌}
+use Rattle.cmd_steps.proofs.Names.{List, Ok, ReplayFiles, Shelved, arith, bytes_eq-Decides, codes, does, file_of, fold_work, journal_text, judge, messages_of, only_said, over, over_then, reading_of, recorded_in, refl, told, ℕ, ◌∙◌, ◌≡◌, Files, Parts, Told, folded_in}
 use Rattle.config_json.specs.{configuration}
-use Rattle.cmd_spec.specs.Deserts.{EndsWith, EndsOrFails}
 use Rattle.idsm_run.specs.Replayed.{Replayed}
 use Rattle.law_agreement.proofs.JournalLemmas.{messages_are_short}
 use Rattle.law_agreement.specs.Agreement.{FindsLeft, WasReplayed, check_again, fold_again, left_by}
@@ -13,10 +12,6 @@ recorded_is : (names : ReplayFiles) (files : Files) (text bytes : List ℕ) (con
     → configuration text ≡ Ok config → file_of 16777216 names.journal files ≡ Ok bytes → folded_in config bytes ≡ Ok own
     → over (recorded_in (left_by names)) files ≡ Ok (record { config = config; told = own })
 recorded_is names files text bytes config own here is there folds = cc
-
-checked_is : (name sent : List ℕ) (files : Files) → file_of 67108864 name files ≡ Ok sent
-    → over (file 67108864 name >>= λ bytes. check_judged bytes sent) files ≡ Ok (does (only_said (codes "same\n")))
-checked_is name sent files there = cc (there, (bytes_eq-Decides sent sent).1 refl)
 
 module _ (names : ReplayFiles) (old left found : Shelved) (was : WasReplayed names old left) (finds : FindsLeft names left found) where
   -- what the replay did
@@ -51,9 +46,4 @@ module _ (names : ReplayFiles) (old left found : Shelved) (was : WasReplayed nam
       let sent = messages_of history.config own.turns in
       let there = file_is 67108864 names.messages sent found.files (finds.same names.messages ∙ history.written.0)
       (omega (arith, messages_are_short history.config own, rw history.written.1.1.0 at finds.short)) in
-      over_then (recorded_in (left_by names)) _ _ found.files recorded ∙ checked_is names.messages sent found.files there
-
--- a check writes nothing, so no write of it fails
-pub nothing_fails : (names : ReplayFiles) (status : ℕ) (found new : Shelved) (before after : Heard)
-    → EndsOrFails 0 (check_again names) status found new before after → EndsWith 0 (check_again names) status found new before after
-nothing_fails names status found new before after ends = grind (arith, ends)
+      over_then (recorded_in (left_by names)) _ _ found.files recorded ∙ cc (there, (bytes_eq-Decides sent sent).1 refl)

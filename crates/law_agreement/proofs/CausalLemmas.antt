@@ -1,7 +1,6 @@
 -- A journal's turns tell of held-back events what is due exactly where their history is causal.
-use Rattle.cmd_steps.proofs.Names.{Err, IsJournal, List, None, Ok, Option, Parts, Result, Some, Told, Turn, [], ap, append-nil, append_assoc, arith, cases_eq, eq-eqb, flat_map, inl, inr, length, length-append, length-map, ne_eqb, refl, reverse, reverse_onto, sym, turn_told, ℕ, ◌++◌, ◌+◌, ◌↔◌, ◌∙◌, ◌∷◌, ◌≡◌, ◌≢◌, ◌≤◌}
+use Rattle.cmd_steps.proofs.Names.{Err, IsJournal, List, None, Ok, Option, Parts, Result, Some, Told, Turn, [], ap, append-nil, append_assoc, arith, cases_eq, eq-eqb, flat_map, inl, inr, length, length-append, length-map, ne_eqb, refl, reverse, reverse_onto, sym, turn_told, ℕ, ◌++◌, ◌+◌, ◌↔◌, ◌∙◌, ◌∷◌, ◌≡◌, ◌≢◌, ◌≤◌, flat_map-append}
 use Rattle.std.proofs.lemmas.Option.{none-some, same_Some}
-use Rattle.std.proofs.lemmas.Grind.{flat_map-append}
 use Rattle.std.proofs.lemmas.List.{reverse-reverse}
 use Rattle.chain_spec.specs.Chain.{IsCausal, handed, handed_on}
 use Rattle.text_spec.specs.Lines.{BadLine}
@@ -22,7 +21,7 @@ module _ (config : Parts) where
   handed_are before (turn ∷ turns) =
       grind (arith, append_assoc, reverse_onto (handed config before) (handed_on config (turn ∷ before)) [], handed_are (turn ∷ before) turns)
 
-  causal_before : (turns before : List Turn) → IsCausal config (reverse_aux turns before) → IsCausal config before
+  pub causal_before : (turns before : List Turn) → IsCausal config (reverse_aux turns before) → IsCausal config before
   causal_before [] before is = is
   causal_before (turn ∷ turns) before is = (causal_before turns (turn ∷ before) is).1
 

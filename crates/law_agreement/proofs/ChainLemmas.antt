@@ -1,10 +1,22 @@
 -- The whole chain adds no weight, from the moments of a history to the messages that are sent.
-use Rattle.law_agreement.proofs.Names.{◌+◌, ◌≤◌, List, [], ◌∷◌, length, sum_by, ap, arith, Parts, event_at, candidates, sent_at, sent, gated_at, thresholded_at, filtered_at, gated, aggregated, qualified, Item, spelled, Moment, added, weight, moment_weight}
+use Rattle.law_agreement.proofs.Names.{◌+◌, ◌≤◌, List, [], ◌∷◌, length, length-append, sum_by, ap, arith, Parts, event_at, candidates, sent_at, sent, gated_at, thresholded_at, filtered_at, gated, aggregated, qualified, Item, message_of, spelled, spelling, Moment, added, weight, moment_weight}
 use Rattle.chain_spec.specs.{bypassing_at}
 use Rattle.chain_spec.proofs.FilterLemmas.{filtered_thresholded}
-use Rattle.law_agreement.proofs.MessageLemmas.{spelled_weighs}
 use Rattle.law_agreement.proofs.TotalLemmas.{total, total-sum, total-append, total-filter, weight_in, added_weighs}
 use Rattle.law_agreement.proofs.WindowLemmas.{call_weight, aggregated_weighs}
+
+-- ---- messages
+
+-- a message has at most as many bytes as its item weighs
+pub message_weighs : (config : Parts) (item : Item) → length (spelling (message_of config item)) ≤ weight item
+message_weighs config item = grind (arith, length-append)
+
+-- all messages of items have at most as many as the items weigh
+spelled_weighs : (config : Parts) (items : List Item) → length (spelled config items) ≤ total weight items
+spelled_weighs config [] = omega arith
+spelled_weighs config (item ∷ before) =
+    let own = length-append (spelled config before) (spelling (message_of config item)) in
+    omega (arith, own, message_weighs config item, spelled_weighs config before)
 
 -- ---- the gate
 

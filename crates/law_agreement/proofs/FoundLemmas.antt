@@ -1,9 +1,8 @@
 -- What was found in files, and what a later run finds in them.
-use Rattle.cmd_steps.proofs.Names.{AskedFor, Files, IsNoneOf, List, None, Ok, Option, Parts, ReplayFiles, Some, Command, command_of, [], are_names, asked_in, file, file_of, if_found, le-ltb, length, over, over_parts, refl, replay, replay_of, true, written_by, ℕ, ◌∷◌, ◌≡◌, ◌≤◌, rounds_in, ◌>>=◌}
+use Rattle.cmd_steps.proofs.Names.{AskedFor, Files, IsNoneOf, List, None, Ok, Option, Parts, ReplayFiles, Some, Command, command_of, [], are_names, asked_in, file, file_of, if_found, le-ltb, length, over, over_parts, refl, replay, replay_of, true, written_by, ℕ, ◌∷◌, ◌≡◌, ◌≤◌, rounds_in, ◌>>=◌, arith}
 use Rattle.ids_config.specs.Values.{parts_value}
-use Rattle.std.proofs.Common.{arith, Bool, true}
 use Rattle.std.proofs.lemmas.Bool.Decides.{nat_tests}
-use Rattle.std.specs.Prelude.{option_map, bytes_eq, codes, if◌then◌else◌}
+use Rattle.std.specs.Prelude.{option_map, bytes_eq, codes, if◌then◌else◌, Bool}
 use Rattle.serde_json.specs.Data.{Data}
 use Rattle.cmd_words.proofs.CommandLemmas.{gen_none}
 use Rattle.cmd_words.specs.Command as Words

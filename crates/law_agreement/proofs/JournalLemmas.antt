@@ -1,17 +1,16 @@
 -- A journal's lines against what the turns bring: each report's line is at least as long as its item weighs, and
 -- the line that begins a turn a quarter at least of what the turn's internal events weigh.
-use Rattle.cmd_steps.proofs.Names.{Turn, text_of}
 use mathlib.Core.List.{reverse_aux}
 use Rattle.std.proofs.lemmas.List.{map-append}
 use Rattle.std.specs.Fmt.{digits}
 use Rattle.law_agreement.proofs.Names.{◌≡◌, ℕ, zero, suc, ◌+◌, ◌*◌, ◌/◌, ◌%◌, ◌≤◌, Bool, false, List, [], ◌∷◌, length, map, flat_map, reverse, Option, Some, None, arith, length-append, digits_onto, digit_glyph, Kept, Entry, Stamp, Parts, Told, Line, begins, enters, line_for, turn_told, journal_text, messages, kept_parcel, closes, head_moment, act_moment, turn_moments, moments, stamp_weight, context_weight, moment_weight}
+use Rattle.ids_types.specs.declared.internal.Internal.{Internal}
 use Rattle.ids_types.specs.declared.entry.Act.{Act}
 use Rattle.ids_types.specs.declared.entry.Carried.{Carried}
 use Rattle.ids_types.specs.declared.entry.TurnHead.{TurnHead}
-use Rattle.ids_types.specs.declared.internal.Internal.{Internal}
 use Rattle.ids_types.specs.declared.names.EventIndex.{EventIndex}
-use Rattle.text_spec.specs.Below.{decimal, to_be_bytes, w64}
-use Rattle.text_spec.specs.{context_word, entry_of, stamp_text}
+use Rattle.text_spec.specs.Below.{Turn, decimal, to_be_bytes, w64}
+use Rattle.text_spec.specs.{context_word, entry_of, stamp_text, text_of}
 use Rattle.text_spec.proofs.HexadecimalLemmas.{length_hex}
 use Rattle.chain_spec.specs.Heads.{head_for, heads_of}
 use Rattle.law_agreement.proofs.ChainLemmas.{sent_weighs}

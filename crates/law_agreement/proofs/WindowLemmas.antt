@@ -1,12 +1,30 @@
 -- Aggregation adds no weight: what came out and what lies in the open windows of all events weigh no more than
 -- what came.
-use Rattle.law_agreement.proofs.Names.{ℕ, suc, ◌+◌, ◌≤◌, not, Bool, List, [], ◌∷◌, Option, Some, None, option_map, option_and_then, refl, arith, eq-eqb, list_any, Parts, event_at, aggregated_at, item_at, added, context_weight, told_weight, weight}
+use Rattle.law_agreement.proofs.Names.{◌≡◌, ◌==◌, ℕ, zero, suc, false, if◌then◌else◌, ◌+◌, ◌≤◌, not, Bool, List, [], ◌∷◌, Option, Some, None, option_map, option_and_then, refl, arith, eq-eqb, list_any, Parts, event_at, aggregated_at, item_at, added, context_weight, told_weight, weight}
 use Rattle.std.proofs.lemmas.Bool.Decides.{nat_tests}
+use Rattle.std.specs.Prelude.{nat_lt}
 use Rattle.ids_config.specs.declared.parts.Aggregate.{Aggregate}
 use Rattle.chain_spec.specs.{closes_due, arrives, closing_ticks, windows_in, is_due, newest_where, due_item, closing_item, with_item, kept_of}
 use Rattle.chain_spec.proofs.AggregationLemmas.{ACall, AnArrival, AWindow, came_at}
-use Rattle.law_agreement.proofs.SumLemmas.{sum_below, sum_below-none, one_changed}
 use Rattle.law_agreement.proofs.TotalLemmas.{total, total-append, weight_in}
+
+-- ---- sums over the numbers below a bound
+
+-- the values at the numbers below n together
+abbrev sum_below : (ℕ → ℕ) → ℕ → ℕ
+sum_below f zero = 0
+sum_below f (suc n) = sum_below f n + f n
+
+-- no value is above 0
+sum_below-none : (f : ℕ → ℕ) → ((i : ℕ) → f i ≡ 0) → (n : ℕ) → sum_below f n ≡ 0
+sum_below-none f none zero = refl
+sum_below-none f none (suc n) = omega (arith, sum_below-none f none n, none n)
+
+-- where the value at one number alone changes, so does the sum
+one_changed : (f g : ℕ → ℕ) (k : ℕ) → ((i : ℕ) → k == i ≡ false → g i ≡ f i) → (n : ℕ)
+    → sum_below g n + (if nat_lt k n then f k else 0) ≡ sum_below f n + (if nat_lt k n then g k else 0)
+one_changed f g k others zero = grind (arith, nat_tests)
+one_changed f g k others (suc n) = grind (arith, nat_tests, one_changed f g k others n, others n)
 
 -- ---- windows
 

@@ -2,8 +2,8 @@
 -- Source: docs/COMMANDS.md.
 use Rattle.std.specs.Prelude.{◌≡◌, ◌≤◌}
 use Rattle.cmd_steps.specs.Names.{Command, Files, Heard, IfSome, IsTrue, List, Recording, ReplayFiles, SameBut, SameFiles, Shelved, Some, check, command_of, fold, length, replay, replay_of, written_by, ℕ}
-use Rattle.trace_replay.specs.Replayed.{RunManager}
 use Rattle.idsm_run.specs.Replayed.{RanReplay}
+use Rattle.trace_replay.specs.Replayed.{RunManager}
 
 -- the recording that a replay leaves: the configuration that it read, and the journal that it wrote
 abbrev pub left_by : ReplayFiles → Recording

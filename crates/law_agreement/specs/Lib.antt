@@ -1,3 +1,4 @@
 pub mod Agreement
 pub mod Causal
+pub mod Live
 pub mod Weights

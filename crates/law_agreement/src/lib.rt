@@ -6,10 +6,12 @@
 
 mod causal;
 mod laws;
+mod live;
 mod weights;
 
 pub use causal::fold_takes_what_is_causal;
 pub use laws::replay_fold_and_check_agree;
+pub use live::what_a_closed_manager_wrote_is_its_journal;
 pub use weights::{
     messages_are_at_most_four_times_their_journal, the_chain_adds_no_weight, what_a_message_weighs,
 };

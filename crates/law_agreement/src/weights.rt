@@ -7,7 +7,7 @@ ghost use Rattle.chain_spec.specs.{qualified, Item, message_of, spelled, Moment}
 ghost use Rattle.law_agreement.specs.Weights.{weight, moment_weight};
 
 /// The message of an item has at most as many bytes as the item weighs.
-#[tactic(auto, using(crate::proofs::MessageLemmas::message_weighs))]
+#[tactic(auto, using(crate::proofs::ChainLemmas::message_weighs))]
 pub fn what_a_message_weighs()
     ensures { (config : Parts) (item : Item) → length (spelling (message_of config item)) ≤ weight item }
 {}

@@ -1,6 +1,6 @@
-use Rattle.cmd_steps.proofs.Names.{AreWritten, Work, did_work, served_ends, subst, sym, ◌∙◌}
+use Rattle.cmd_steps.proofs.Names.{AreWritten, Work, arith, did_work, served_ends, subst, sym, ◌∙◌}
 use Rattle.law_agreement.specs.Agreement.{check_again, fold_again}
-use Rattle.law_agreement.proofs.AgreementLemmas.{check_serves, fold_serves, history, nothing_fails}
+use Rattle.law_agreement.proofs.AgreementLemmas.{check_serves, fold_serves, history}
 use Rattle.law_agreement.proofs.laws.replay_fold_and_check_agree.Goals as goal
 
 pub returns : goal.returns
@@ -15,7 +15,9 @@ returns c = record {
       served_ends (fold_again names messages memory) status found new before after finds.tells _
       (fold_serves names old left found was finds messages memory) ran.answer (λ refusal none. none) ran.ends ran.puts;
   checks = λ names old left found new status before after was finds ran.
-      nothing_fails names status found new before after
-      (served_ends (check_again names) status found new before after finds.tells _
-      (check_serves names old left found was finds) ran.answer (λ refusal none. none) ran.ends ran.puts);
+      grind (
+        arith,
+        served_ends (check_again names) status found new before after finds.tells _
+            (check_serves names old left found was finds) ran.answer (λ refusal none. none) ran.ends ran.puts,
+      );
 }
