@@ -86,6 +86,8 @@ class Run:
     # What happened in the turns, with the number of the turn, in the journal's order.
     steps: list[tuple[int, object]] = field(default_factory=list)
     losses: list[Loss] = field(default_factory=list)
+    # The least call of each caller that has a line.
+    first: dict[int, int] = field(default_factory=dict)
     accounts: list[Account] = field(default_factory=list)
 
     def items(self) -> Iterator[tuple[int, Item]]:
@@ -115,6 +117,9 @@ def take(run: Run, kind: str, words: tuple[str, ...]) -> Optional[str]:
     """Takes a line into the run, or says why it cannot stand where it stands."""
     if run.accounts and kind != "account":
         return "an account stands before it, and all accounts stand at the end"
+    if kind in ("report", "state", "mode", "loss"):
+        caller, call = map(int, words[:2])
+        run.first[caller] = min(call, run.first.get(caller, call))
     if kind == "turn":
         turn = Turn(*map(int, words))
         if run.turns and turn.tick < run.turns[-1].tick:
@@ -163,6 +168,11 @@ def lost_numbers(run: Run) -> Iterator[str]:
                 yield f"the account of event {event} has {name} {account[name]}, and the lines above it tell {numbers[name]}"
         if account["came"] + account["closed"] != sum(account[fate] for fate in FATES):
             yield f"the account of event {event} does not add up"
+
+
+def late_callers(run: Run) -> list[tuple[int, int]]:
+    """The callers whose first line is not that of their first call, with its call."""
+    return [(caller, call) for caller, call in sorted(run.first.items()) if call > 0]
 
 
 def read(text: str) -> Run:
