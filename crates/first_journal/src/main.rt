@@ -32,6 +32,7 @@ fn report(_: usize, caller: &mut Caller)
 {
     for _ in 0..REPORTS {
         caller.report_event(EventIndex(0));
+        thread::yield_now();
     }
 }
 
