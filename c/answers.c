@@ -722,7 +722,10 @@ static void quiet_turns(void)
                                  "\"events\":[{\"id\":42,\"sensor\":3,\"aggregate\":{\"interval\":5,\"context\":\"FIRST\"}}]}";
     idsm_caller caller = {NULL, 0};
     static idsm_manager manager;
+    uint8_t buffer[80];
     idsm_fault fault;
+    idsm_sent sent;
+    idsm_totals totals;
     expect("windows", 0, idsm_init((const uint8_t *)CONFIG, sizeof CONFIG - 1, &caller, 1, &manager, &fault));
     expect_quiet("a first turn", &manager, 1, 1);
     expect("a report", 0, idsm_set_event(&caller, 0));
@@ -736,7 +739,7 @@ static void quiet_turns(void)
     expect_quiet("the turn that holds it back", &manager, 13, 0);
     expect_quiet("the turn that tells of it", &manager, 13, 0);
     expect_quiet("a last turn", &manager, 1000, 1);
-    expect("a stop", 0, idsm_stop(&manager));
+    expect("the close", 0, idsm_close(&manager, 1000, buffer, sizeof buffer, &sent, &totals));
 }
 #endif
 
