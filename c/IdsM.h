@@ -8,6 +8,7 @@
      IDSM_SEND(message, length)   takes a message of a turn.
    Who wants the lines of each turn for a journal defines IDSM_JOURNAL as 1, and calls idsm_journal after each turn. Then
    idsm_stop, idsm_last_send and idsm_free stand in the place of IdsM_DeInit, which frees the lines of its last turn.
+   Who has no heap calls IdsM_InitIn in the place of IdsM_Init.
    One file defines IdsM_UnitType IdsM_Unit, as a global variable, so that it begins as zeros. */
 #ifndef IDSM_AUTOSAR_H
 #define IDSM_AUTOSAR_H
@@ -73,17 +74,32 @@ extern IdsM_UnitType IdsM_Unit;
 }
 #endif
 
+/* What is made of a configuration, NULL for that of IdsM_Cfg.h. */
+static inline idsm_setup IdsM_SetupOf(const IdsM_ConfigType *config)
+{
+    const idsm_setup setup = {config == NULL ? IDSM_CFG_BYTES : config->bytes,
+                              config == NULL ? sizeof IDSM_CFG_BYTES : config->count, sizeof IdsM_Unit.messages,
+                              IDSM_JOURNAL};
+    return setup;
+}
+
 /* Makes the callers and the manager of a configuration, NULL for that of IdsM_Cfg.h. Another one has as many callers, and
    its events at the same places: ids are looked up in IdsM_Cfg.h. */
 static inline IdsM_ReturnType IdsM_Init(const IdsM_ConfigType *config)
 {
-    const IdsM_ConfigType made = {IDSM_CFG_BYTES, sizeof IDSM_CFG_BYTES};
+    const idsm_setup setup = IdsM_SetupOf(config);
     if (idsm_abi() != IDSM_ABI)
         return IDSM_OUT_OF_RANGE;
-    if (config == NULL)
-        config = &made;
-    const idsm_setup setup = {config->bytes, config->count, sizeof IdsM_Unit.messages, IDSM_JOURNAL};
     return idsm_init_with(&setup, IdsM_Unit.callers, IDSM_CFG_CALLERS, &IdsM_Unit.manager, &IdsM_Unit.fault);
+}
+
+/* The same with all memory from an arena, which is aligned to 16: without malloc, if IdsM_Init is not called. */
+static inline IdsM_ReturnType IdsM_InitIn(const IdsM_ConfigType *config, void *arena, size_t bytes)
+{
+    const idsm_setup setup = IdsM_SetupOf(config);
+    if (idsm_abi() != IDSM_ABI)
+        return IDSM_OUT_OF_RANGE;
+    return idsm_init_in(&setup, arena, bytes, IdsM_Unit.callers, IDSM_CFG_CALLERS, &IdsM_Unit.manager, &IdsM_Unit.fault);
 }
 
 static inline IdsM_ReturnType IdsM_GetVersionInfo(IDSM_VERSION_INFO_TYPE *info)

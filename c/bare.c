@@ -1,26 +1,11 @@
-/* The library with no C library below it: an arena for memory, the five functions of memory that it may call, and
-   messages written by a call of the operating system. */
+/* The library with no C library below it, and no heap: an arena for all that it takes, the four functions of memory that it
+   may call, and messages written by a call of the operating system. */
 #include "idsm_c.h"
 
 enum { ARENA = 1 << 20, BUFFER = 1 << 18 };
 
 static _Alignas(16) uint8_t arena[ARENA];
-static size_t used;
 static uint8_t buffer[BUFFER];
-
-void *malloc(size_t size)
-{
-    size_t start = (used + 15) & ~(size_t)15;
-    if (size > ARENA - start)
-        return NULL;
-    used = start + size;
-    return &arena[start];
-}
-
-void free(void *at)
-{
-    (void)at;
-}
 
 void *memset(void *to, int byte, size_t count)
 {
@@ -58,16 +43,6 @@ int memcmp(const void *one, const void *other, size_t count)
         if (a[i] != b[i])
             return a[i] < b[i] ? -1 : 1;
     return 0;
-}
-
-void *realloc(void *at, size_t size)
-{
-    uint8_t *new = malloc(size);
-    if (new != NULL && at != NULL) {
-        size_t rest = (size_t)(&arena[ARENA] - (uint8_t *)at);
-        memmove(new, at, size < rest ? size : rest);
-    }
-    return new;
 }
 
 static long system_call(long number, long a, long b, long c)
@@ -118,17 +93,15 @@ static int run(void)
     idsm_totals totals;
     if (idsm_set_event(&caller, 0) != IDSM_UNSET)
         return 1;
-    if (idsm_init((const uint8_t *)CONFIG, sizeof CONFIG - 1, &caller, 1, &manager, &fault) != IDSM_DONE)
+    idsm_setup setup = {(const uint8_t *)CONFIG, sizeof CONFIG - 1, sizeof buffer, 0};
+    if (idsm_init_in(&setup, arena, sizeof arena, &caller, 1, &manager, &fault) != IDSM_DONE)
         return 2;
-    size_t taken = used;
     if (!calls(&caller, &manager, &sent) || sent.messages != 1)
         return 3;
-    if (used != taken)
-        return 4; /* a call took memory */
     system_call(1, 1, (long)buffer, (long)sent.bytes);
     if (idsm_close(&manager, 2, buffer, sizeof buffer, &sent, &totals) != IDSM_DONE || totals.entries != 7)
         return 5;
-    return used == taken && idsm_set_event(&caller, 0) == IDSM_CLOSED ? 0 : 6;
+    return idsm_set_event(&caller, 0) == IDSM_CLOSED ? 0 : 6;
 }
 
 void begin(void);

@@ -1,6 +1,6 @@
 /* The calls of idsm_c.h over the proved library: each takes its handle by an atomic step, so that a second call on it
    meanwhile is answered, and looks at its pointers. The toolchain lets no atomic word cross to C, so this part is C. */
-#include "idsm_c.h"
+#include "inner.h"
 
 /* The proved library (crates/idsm_c). A word is null, or what a caller or a manager owns, and no other call has it. */
 typedef struct {
@@ -143,8 +143,47 @@ static uint8_t make(const idsm_setup *setup, word *callers, size_t count, word *
     return answer;
 }
 
-uint8_t idsm_init_with(const idsm_setup *setup, idsm_caller *callers, size_t count, idsm_manager *manager,
-                       idsm_fault *fault)
+/* The same, with all memory from a source. */
+static uint8_t make_from(const idsm_source *source, const idsm_setup *setup, word *callers, size_t count, word *manager,
+                         idsm_fault *fault)
+{
+    uint8_t answer = idsm_own_open(source);
+    if (answer != IDSM_DONE)
+        return answer;
+    answer = make(setup, callers, count, manager, fault);
+    idsm_own_shut(source);
+    return answer;
+}
+
+/* How far a manager is: its callers may call, they are stopped, its last turn was made. Beside it stands whether it is in an
+   arena. Only who has its handle writes it. */
+enum { RUNNING, STOPPED, ENDED, IN_ARENA = 4 };
+
+static uint32_t state_of(const idsm_manager *manager)
+{
+    return __atomic_load_n(&manager->stopped, __ATOMIC_RELAXED) & ~(uint32_t)IN_ARENA;
+}
+
+static uint32_t is_in_arena(const idsm_manager *manager)
+{
+    return __atomic_load_n(&manager->stopped, __ATOMIC_RELAXED) & IN_ARENA;
+}
+
+static void set_state(idsm_manager *manager, uint32_t state)
+{
+    __atomic_store_n(&manager->stopped, state | is_in_arena(manager), __ATOMIC_RELAXED);
+}
+
+/* Frees what the words of a manager or of its callers have. What is in an arena is left there, and none of it is looked at
+   any more: the arena is the integrator's. */
+static void leave(const idsm_manager *manager, word *words, size_t count)
+{
+    if (!is_in_arena(manager))
+        free_all(words, count);
+}
+
+uint8_t idsm_own_init(const idsm_setup *setup, const idsm_source *source, idsm_caller *callers, size_t count,
+                      idsm_manager *manager, idsm_fault *fault)
 {
     static const idsm_fault no_fault = {0, 0, 0};
     word words[IDSM_MOST_CALLERS] = {{NULL}}, own = {NULL};
@@ -157,10 +196,12 @@ uint8_t idsm_init_with(const idsm_setup *setup, idsm_caller *callers, size_t cou
     uint8_t answer = take_all_unset(callers, count, manager);
     if (answer != IDSM_DONE)
         return answer;
-    answer = make(setup, words, count, &own, fault);
+    answer = make_from(source, setup, words, count, &own, fault);
     if (answer == IDSM_DONE) {
         manager->callers = callers;
         manager->count = count;
+        if (source->heap == NULL)
+            __atomic_store_n(&manager->stopped, IN_ARENA, __ATOMIC_RELAXED);
     }
     for (size_t i = 0; i < count; i++)
         give(&callers[i].at, words[i].at);
@@ -168,11 +209,15 @@ uint8_t idsm_init_with(const idsm_setup *setup, idsm_caller *callers, size_t cou
     return answer;
 }
 
-uint8_t idsm_init(const uint8_t *config, size_t bytes, idsm_caller *callers, size_t count, idsm_manager *manager,
-                  idsm_fault *fault)
+uint8_t idsm_init_in(const idsm_setup *setup, void *arena, size_t bytes, idsm_caller *callers, size_t count,
+                     idsm_manager *manager, idsm_fault *fault)
 {
-    idsm_setup setup = {config, bytes, 0, 0};
-    return idsm_init_with(&setup, callers, count, manager, fault);
+    const idsm_source source = {NULL, arena, bytes};
+    if (arena == NULL)
+        return IDSM_NULL;
+    if ((uintptr_t)arena % IDSM_OWN_ALIGNED != 0)
+        return IDSM_OUT_OF_RANGE;
+    return idsm_own_init(setup, &source, callers, count, manager, fault);
 }
 
 static uint8_t report(idsm_caller *caller, uint16_t event, uint16_t count, uint8_t has_stamp, uint64_t stamp,
@@ -405,19 +450,6 @@ static void read_totals(word *own, idsm_totals *totals)
     totals->messages = status.messages;
 }
 
-/* How far a manager is: its callers may call, they are stopped, its last turn was made. Only who has its handle writes it. */
-enum { RUNNING, STOPPED, ENDED };
-
-static uint32_t state_of(const idsm_manager *manager)
-{
-    return __atomic_load_n(&manager->stopped, __ATOMIC_RELAXED);
-}
-
-static void set_state(idsm_manager *manager, uint32_t state)
-{
-    __atomic_store_n(&manager->stopped, state, __ATOMIC_RELAXED);
-}
-
 /* Takes the handle of a manager that may make turns. */
 static uint8_t take_running(idsm_manager *manager, word *own)
 {
@@ -568,7 +600,7 @@ static uint8_t take_callers(idsm_manager *manager, word *words)
 static void leave_callers(idsm_manager *manager, word *words, int frees)
 {
     if (frees)
-        free_all(words, manager->count);
+        leave(manager, words, manager->count);
     for (size_t i = 0; i < manager->count; i++)
         give(&manager->callers[i].at, frees ? CLOSED : words[i].at);
 }
@@ -608,7 +640,7 @@ static uint8_t end(idsm_manager *manager, uint64_t tick, uint8_t *buffer, size_t
         return answer;
     answer = last_turn(manager, &own, tick, buffer, bytes, out, sent, totals);
     if (answer == IDSM_DONE && frees)
-        free_all(&own, 1);
+        leave(manager, &own, 1);
     give(&manager->at, answer == IDSM_DONE && frees ? CLOSED : own.at);
     return answer;
 }
@@ -660,7 +692,7 @@ uint8_t idsm_free(idsm_manager *manager)
     if (answer == IDSM_DONE && state_of(manager) != ENDED)
         answer = IDSM_BUSY;
     if (answer == IDSM_DONE)
-        free_all(&own, 1);
+        leave(manager, &own, 1);
     give(&manager->at, answer == IDSM_DONE ? CLOSED : own.at);
     return answer;
 }

@@ -131,6 +131,13 @@ uint8_t idsm_init(const uint8_t *config, size_t bytes, idsm_caller *callers, siz
 uint8_t idsm_init_with(const idsm_setup *setup, idsm_caller *callers, size_t count, idsm_manager *manager,
                        idsm_fault *fault);
 
+/* The same with all memory from `arena`, which is aligned to 16 (else IDSM_OUT_OF_RANGE): IDSM_CFG_ARENA bytes, and
+   IDSM_CFG_ARENA_JOURNAL more with a journal, are enough, and one less is IDSM_NO_MEMORY. IDSM_BUSY if another init is under
+   way, and so is each init while this one is. The arena belongs to the manager until it is freed, and can then be used again. A
+   program that calls no other init needs no malloc. */
+uint8_t idsm_init_in(const idsm_setup *setup, void *arena, size_t bytes, idsm_caller *callers, size_t count,
+                     idsm_manager *manager, idsm_fault *fault);
+
 /* Calls of callers. An event is its place in the configuration, from 0. (NULL, 0) is no context. */
 uint8_t idsm_set_event(idsm_caller *caller, uint16_t event);
 uint8_t idsm_set_event_count(idsm_caller *caller, uint16_t event, uint16_t count);

@@ -433,6 +433,76 @@ static void room(void)
     size_answer = IDSM_DONE;
 }
 
+/* An init that begins while another one fills an arena, or from the heap, on handles of its own. */
+static void interrupts_arena(void)
+{
+    static uint8_t other[64] __attribute__((aligned(16)));
+    static const idsm_setup nothing;
+    static idsm_caller own_callers[2];
+    static idsm_manager own_manager;
+    idsm_fault fault;
+    meanwhile = NULL;
+    expect("an arena in an init", 16, idsm_init_in(&nothing, other, 64, own_callers, 2, &own_manager, &fault));
+    expect("its handles", 1, own_callers[0].at == NULL && own_callers[1].at == NULL && own_manager.at == NULL);
+    expect("its fault", 0, fault.number + fault.part + fault.place);
+}
+
+static void interrupts_filling(void)
+{
+    static idsm_caller own_callers[2];
+    static idsm_manager own_manager;
+    idsm_fault fault;
+    interrupts_arena();
+    expect("an init from the heap meanwhile", 16, idsm_init(buffer, 3, own_callers, 2, &own_manager, &fault));
+    expect("its handles", 1, own_callers[0].at == NULL && own_callers[1].at == NULL && own_manager.at == NULL);
+}
+
+/* A manager in an arena is let go of, and the library is not asked to free it; one that is refused is freed. */
+static void arenas(void)
+{
+    static uint8_t arena[80] __attribute__((aligned(16)));
+    idsm_setup setup = {buffer, 3, 20, 1};
+    idsm_fault fault;
+    idsm_sent sent;
+    idsm_totals totals;
+    uint64_t number;
+    answer = IDSM_DONE;
+    expect("no arena", 15, idsm_init_in(&setup, NULL, 64, callers, 2, &manager, &fault));
+    expect("one at 8", 10, idsm_init_in(&setup, arena + 8, 64, callers, 2, &manager, &fault));
+    expect("one at 1", 10, idsm_init_in(&setup, arena + 1, 64, callers, 2, &manager, &fault));
+    expect("no setup in an arena", 15, idsm_init_in(NULL, arena, 64, callers, 2, &manager, &fault));
+    expect("no manager in it", 15, idsm_init_in(&setup, arena, 64, callers, 2, NULL, &fault));
+    expect("33 handles in it", 10, idsm_init_in(&setup, arena, 64, callers, 33, &manager, &fault));
+    expect("a buffer too small", 13, idsm_init_in(&setup, arena, 64, callers, 2, &manager, &fault));
+    expect_unset("its handles");
+    meanwhile = interrupts_filling;
+    setup.room = 21;
+    expect("an arena", 0, idsm_init_in(&setup, arena, 64, callers, 2, &manager, &fault));
+    expect("its configuration and journal", 5, bytes_given + (bytes_at == buffer) + journal_given);
+    expect("an arena on handles that have something", 14, idsm_init_in(&setup, arena, 64, callers, 2, &manager, &fault));
+    expect("a stop in it", 0, idsm_stop(&manager));
+    expect("a last turn in it", 0, idsm_last(&manager, 1, buffer, 8, &sent, &totals));
+    expect_totals("its totals", &totals);
+    expect("a turn after it", 17, idsm_main(&manager, 1, buffer, 8, &sent));
+    expect("rows after it", 0, idsm_rows(&manager, &number));
+    expect("that it is let go of", 0, idsm_free(&manager));
+    expect("what is closed then", 17, idsm_rows(&manager, &number));
+    expect("what the library was asked to free", 0, (uint64_t)closed);
+    memset(callers, 0, sizeof callers);
+    memset(&manager, 0, sizeof manager);
+    answer = IDSM_NO_MEMORY;
+    expect("an arena that is too small", 11, idsm_init_in(&setup, arena, 64, callers, 2, &manager, &fault));
+    expect("whether it is said to be in one", 0, manager.stopped);
+    answer = IDSM_DONE;
+    meanwhile = interrupts_arena;
+    expect("an init from the heap", 0, idsm_init_with(&setup, callers, 2, &manager, &fault));
+    expect("its close", 0, idsm_close(&manager, 1, buffer, 8, &sent, &totals));
+    expect("what that one freed", 3, (uint64_t)closed);
+    closed = 0;
+    memset(callers, 0, sizeof callers);
+    memset(&manager, 0, sizeof manager);
+}
+
 /* Where messages are sent: their bytes one after the other, with the length before each. */
 struct sink {
     uint8_t bytes[64];
@@ -516,6 +586,7 @@ int main(void)
     size_t count;
     expect("idsm_abi", 77, idsm_abi());
     expect("IdsM_Init over a library of another number", 10, IdsM_Init(NULL));
+    expect("IdsM_InitIn over such a one", 10, IdsM_InitIn(NULL, buffer, 8));
     expect("what the library is given then", 0, handles_given);
     for (answer = 1; answer < 18; answer++) {
         expect("a refused init", answer, idsm_init(buffer, 3, callers, 2, &manager, &fault));
@@ -524,6 +595,7 @@ int main(void)
     }
     many_handles();
     room();
+    arenas();
     expect("no configuration", 0, idsm_init_with(&nothing, callers, 2, &manager, &fault));
     expect("its bytes and journal", 0, bytes_given + journal_given);
     sends();

@@ -4,10 +4,9 @@
    context is missing only if no class is large enough. It does not judge a configuration, and nothing of it is proved. */
 #include <inttypes.h>
 #include <stdio.h>
-#include <stdlib.h>
 #include <string.h>
 
-#include "idsm_c.h"
+#include "inner.h"
 
 enum { MOST_EVENTS = 256, MOST_CLASSES = 4, MOST_RING = 1024, MOST_CONTEXT = 1024, MOST_LINE = 72 + 2 * MOST_CONTEXT };
 
@@ -254,14 +253,20 @@ static void unlock(struct unit *unit)
     __atomic_clear(&unit->lock, __ATOMIC_SEQ_CST);
 }
 
+/* Zeros, by the calls of memory that the proved library makes. */
+static void *zeros(size_t size)
+{
+    idsm_block block = rattle_alloc(size, sizeof(uint64_t));
+    return block.ok ? memset(block.at, 0, size) : NULL;
+}
+
 static struct part *new_part(struct unit *unit, uint8_t turns, uint32_t number)
 {
-    struct part *part = malloc(sizeof *part);
+    struct part *part = zeros(sizeof *part);
     if (part != NULL) {
         part->unit = unit;
         part->turns = turns;
         part->number = (uint8_t)number;
-        part->calls = 0;
         unit->parts++;
     }
     return part;
@@ -273,9 +278,11 @@ static uint8_t fill(struct unit *unit, word *callers, word *manager)
     for (uint32_t i = 0; i < unit->config.callers && manager->at != NULL; i++) {
         callers[i].at = new_part(unit, 0, i);
         if (callers[i].at == NULL) {
-            while (i-- > 0)
-                free(callers[i].at);
-            free(manager->at);
+            while (i-- > 0) {
+                rattle_dealloc(callers[i].at);
+                callers[i].at = NULL;
+            }
+            rattle_dealloc(manager->at);
             manager->at = NULL;
         }
     }
@@ -290,7 +297,7 @@ uint32_t idsm_raw_abi(void)
 uint8_t idsm_raw_init(const uint8_t *text, size_t bytes, uint8_t journal, word *callers, size_t count, word *manager,
                       idsm_fault *fault)
 {
-    struct config *config = calloc(1, sizeof *config);
+    struct config *config = zeros(sizeof *config);
     uint8_t answer = IDSM_DONE;
     (void)fault;
     if (config == NULL)
@@ -300,17 +307,17 @@ uint8_t idsm_raw_init(const uint8_t *text, size_t bytes, uint8_t journal, word *
     else if (config->callers != count)
         answer = IDSM_OUT_OF_RANGE;
     size_t entries = config->ring * sizeof(struct entry), lines = journal ? (config->ring + 1) * MOST_LINE : 0;
-    struct unit *unit = answer != IDSM_DONE ? NULL : calloc(1, sizeof *unit + entries + lines);
+    struct unit *unit = answer != IDSM_DONE ? NULL : zeros(sizeof *unit + entries + lines);
     if (unit != NULL) {
         unit->config = *config;
         unit->status.state = (uint8_t)config->state;
         unit->lines = journal ? (char *)&unit->entry[config->ring] : NULL;
         answer = fill(unit, callers, manager);
         if (answer != IDSM_DONE)
-            free(unit);
+            rattle_dealloc(unit);
     } else if (answer == IDSM_DONE)
         answer = IDSM_NO_MEMORY;
-    free(config);
+    rattle_dealloc(config);
     return answer;
 }
 
@@ -559,9 +566,9 @@ uint8_t idsm_raw_journal(word *manager, uint64_t at, uint8_t *buffer, size_t siz
 uint8_t idsm_raw_close(word *handle)
 {
     struct unit *unit = handle->at->unit;
-    free(handle->at);
+    rattle_dealloc(handle->at);
     handle->at = NULL;
     if (--unit->parts == 0)
-        free(unit);
+        rattle_dealloc(unit);
     return IDSM_DONE;
 }

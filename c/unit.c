@@ -1,5 +1,5 @@
 /* A control unit: four tasks report beside the main function, which prints the messages; then the event memory is read.
-   IdsM_Cfg.h is made of unit.json and unit.names. */
+   IdsM_Cfg.h is made of unit.json and unit.names. If it has IDSM_CFG_ARENA, all memory is an array of the unit. */
 #include <pthread.h>
 #include <stdatomic.h>
 #include <stdio.h>
@@ -18,6 +18,13 @@ static void send(const uint8_t *message, size_t length);
 IdsM_UnitType IdsM_Unit;
 
 enum { TASKS = IDSM_CFG_CALLERS, REPORTS = 1000000 };
+
+#ifdef IDSM_CFG_ARENA
+static _Alignas(16) uint8_t arena[IDSM_CFG_ARENA];
+#define INIT() IdsM_InitIn(NULL, arena, sizeof arena)
+#else
+#define INIT() IdsM_Init(NULL)
+#endif
 
 struct task {
     pthread_t thread;
@@ -83,7 +90,7 @@ int main(void)
     static const uint8_t context[3] = {0xc0, 0xff, 0xee};
     uint64_t accepted = 0, without_context = 0, lost = 0;
     idsm_totals totals;
-    want("init", IdsM_Init(NULL));
+    want("init", INIT());
     for (int i = 0; i < TASKS; i++)
         if (pthread_create(&tasks[i].thread, NULL, report, &tasks[i]) != 0)
             return 1;

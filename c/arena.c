@@ -1,0 +1,199 @@
+/* The three calls of memory below the proved library: from the heap, or while idsm_init_in runs, from its arena.
+
+   Only an init takes memory. What it frees on its way, as the tree of the configuration's text, is used again by what comes
+   later: each block is put into the first free one that is long enough. So where a block stands follows from what was asked
+   for before it, not from how long the arena is, and an arena that is long enough stays so if it grows. A manager and callers of
+   an arena are never freed block by block: the arena is given back as a whole (c/idsm_c.c). So a block of an arena is
+   freed only while that arena is filled, by who fills it. */
+#include "inner.h"
+
+/* A block begins with its bytes, a multiple of 16. What is put into it stands after them, aligned to 16; in a free one it is
+   the next free one, in the order of their places. No two free ones stand side by side. */
+typedef struct block {
+    uint64_t bytes;
+    struct block *next;
+} block;
+
+enum { HEAD = 8 };
+
+/* Inits under way: how many take from the heap, and how often one began or ceased to fill an arena, in steps of FILLS. So
+   FILLS is in it while one is filled. */
+enum { FILLS = 1 << 16 };
+static uint32_t inits;
+
+/* The arena that is filled, from 0 to 0 if none is, and its first free block. */
+static uintptr_t begin, end;
+static block *unused;
+
+/* The heap of all managers that are in one. */
+static const idsm_heap *heap;
+
+/* What a call points to that gives no memory. */
+static char nothing[IDSM_OWN_ALIGNED];
+
+/* Makes one free block of an arena: all but what aligns it. */
+static void begin_filling(char *arena, size_t bytes)
+{
+    size_t room = bytes < HEAD ? 0 : (bytes - HEAD) / IDSM_OWN_ALIGNED * IDSM_OWN_ALIGNED;
+    unused = NULL;
+    if (room > 0) {
+        unused = (block *)(void *)(arena + HEAD);
+        unused->bytes = room;
+        unused->next = NULL;
+    }
+    __atomic_store_n(&begin, (uintptr_t)arena, __ATOMIC_RELEASE);
+    __atomic_store_n(&end, (uintptr_t)arena + bytes, __ATOMIC_RELEASE);
+}
+
+static void end_filling(void)
+{
+    __atomic_store_n(&end, 0, __ATOMIC_RELEASE);
+    __atomic_store_n(&begin, 0, __ATOMIC_RELEASE);
+}
+
+uint8_t idsm_own_open(const idsm_source *source)
+{
+    const uint32_t others = source->heap != NULL ? FILLS : 2 * FILLS - 1, step = source->heap != NULL ? 1 : FILLS;
+    uint32_t now = __atomic_load_n(&inits, __ATOMIC_RELAXED);
+    do {
+        if ((now & others) != 0)
+            return IDSM_BUSY;
+    } while (!__atomic_compare_exchange_n(&inits, &now, now + step, 0, __ATOMIC_SEQ_CST, __ATOMIC_RELAXED));
+    if (source->heap != NULL)
+        __atomic_store_n(&heap, source->heap, __ATOMIC_RELEASE);
+    else
+        begin_filling(source->arena, source->bytes);
+    return IDSM_DONE;
+}
+
+void idsm_own_shut(const idsm_source *source)
+{
+    if (source->heap != NULL)
+        __atomic_fetch_sub(&inits, 1, __ATOMIC_SEQ_CST);
+    else {
+        end_filling();
+        __atomic_fetch_add(&inits, FILLS, __ATOMIC_SEQ_CST);
+    }
+}
+
+/* Whether an arena is filled. Whoever takes memory meanwhile is who fills it, since no other init is under way. */
+static int is_filling(void)
+{
+    return (__atomic_load_n(&inits, __ATOMIC_ACQUIRE) & FILLS) != 0;
+}
+
+/* Whether a block is of the arena that is filled. Others may free blocks of the heap meanwhile, and see one arena follow
+   another while they look: who fills an arena sees none come or go. */
+static int is_of_arena(const void *at)
+{
+    uint32_t before = __atomic_load_n(&inits, __ATOMIC_ACQUIRE);
+    uintptr_t to = __atomic_load_n(&end, __ATOMIC_ACQUIRE), from = __atomic_load_n(&begin, __ATOMIC_ACQUIRE);
+    if ((uintptr_t)at < from || (uintptr_t)at >= to)
+        return 0;
+    return (before & FILLS) != 0 && __atomic_load_n(&inits, __ATOMIC_ACQUIRE) == before;
+}
+
+static block *block_of(void *at)
+{
+    return (block *)(void *)((char *)at - HEAD);
+}
+
+/* The first free block that is long enough; its rest stays free. */
+static void *take_block(size_t size)
+{
+    block **at = &unused;
+    if (size > SIZE_MAX - HEAD - IDSM_OWN_ALIGNED)
+        return NULL;
+    size_t bytes = (size + HEAD + IDSM_OWN_ALIGNED - 1) / IDSM_OWN_ALIGNED * IDSM_OWN_ALIGNED;
+    while (*at != NULL && (*at)->bytes < bytes)
+        at = &(*at)->next;
+    block *found = *at;
+    if (found == NULL)
+        return NULL;
+    *at = found->next;
+    if (found->bytes > bytes) {
+        block *rest = (block *)(void *)((char *)found + bytes);
+        rest->bytes = found->bytes - bytes;
+        rest->next = found->next;
+        *at = rest;
+        found->bytes = bytes;
+    }
+    return (char *)found + HEAD;
+}
+
+/* Makes one block of two that stand side by side. */
+static void join(block *one)
+{
+    if ((char *)one + one->bytes == (char *)one->next) {
+        one->bytes += one->next->bytes;
+        one->next = one->next->next;
+    }
+}
+
+static void give_block(void *at)
+{
+    block *given = block_of(at), *before = NULL, **link = &unused;
+    while (*link != NULL && (uintptr_t)*link < (uintptr_t)given) {
+        before = *link;
+        link = &before->next;
+    }
+    given->next = *link;
+    *link = given;
+    join(given);
+    if (before != NULL)
+        join(before);
+}
+
+/* A block that is long enough stays where it is. */
+static void *resize_block(void *at, size_t size)
+{
+    size_t old = block_of(at)->bytes - HEAD;
+    if (size <= old)
+        return at;
+    char *to = take_block(size);
+    if (to == NULL)
+        return NULL;
+    for (size_t i = 0; i < old; i++)
+        to[i] = ((const char *)at)[i];
+    give_block(at);
+    return to;
+}
+
+static const idsm_heap *own_heap(void)
+{
+    return __atomic_load_n(&heap, __ATOMIC_ACQUIRE);
+}
+
+/* What is told of memory that was taken, or was not. */
+static idsm_block told(void *at)
+{
+    idsm_block block = {at != NULL, at != NULL ? at : nothing};
+    return block;
+}
+
+idsm_block rattle_alloc(size_t size, size_t align)
+{
+    size_t wanted = size > 0 ? size : align;
+    if (align > IDSM_OWN_ALIGNED)
+        return told(NULL);
+    if (is_filling())
+        return told(take_block(wanted));
+    return told(own_heap() == NULL ? NULL : own_heap()->take(wanted));
+}
+
+idsm_block rattle_realloc(void *at, size_t kept, size_t size, size_t align)
+{
+    size_t wanted = size > 0 ? size : align;
+    (void)kept;
+    if (align > IDSM_OWN_ALIGNED)
+        return told(NULL);
+    return told(is_of_arena(at) ? resize_block(at, wanted) : own_heap()->resize(at, wanted));
+}
+
+void rattle_dealloc(void *at)
+{
+    if (is_of_arena(at))
+        give_block(at);
+    else
+        own_heap()->give(at);
+}
