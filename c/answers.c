@@ -12,21 +12,26 @@
 #include <sys/resource.h>
 #include <unistd.h>
 
-#include "idsm_c.h"
+#include "IdsM.h"
+#include "IdsM_Binding.h"
+#include "IdsM_Cfg.h"
 
 static idsm_caller *running;
 static uint64_t tick;
-static void keep(const uint8_t *message, size_t length);
-#define IDSM_CALLER() running
-#define IDSM_TICK() tick
-#define IDSM_SEND(message, length) keep(message, length)
-#define IDSM_VENDOR_ID 1
-#define IDSM_MODULE_ID 2
-#include "IdsM.h"
-
-IdsM_UnitType IdsM_Unit;
-
 static int failures, checks;
+
+/* The CRC-32 of answers.json as form 2 prints it, by gzip: {"callers":2,"classes":[{"number":2,"size":8}],"events":[.. */
+#define SUM 0xA1B85266U
+
+idsm_caller *unit_caller(void)
+{
+    return running;
+}
+
+uint64_t unit_tick(void)
+{
+    return tick;
+}
 
 static void expect(const char *what, uint64_t wanted, uint64_t got)
 {
@@ -46,11 +51,18 @@ static void hex(char *to, const uint8_t *bytes, size_t count)
         sprintf(to + 2 * i, "%02x", (unsigned)bytes[i]);
 }
 
+/* So many messages are not taken. */
+static int refused;
+
 /* While messages are handed out, nobody else makes a turn. */
-static void keep(const uint8_t *message, size_t length)
+int unit_send(const uint8_t *message, size_t length)
 {
     static int is_nested;
     idsm_totals totals;
+    if (refused > 0) {
+        refused--;
+        return 1;
+    }
     if (!is_nested) {
         is_nested = 1;
         expect("a turn while messages are sent", 16, IdsM_MainFunction());
@@ -59,6 +71,7 @@ static void keep(const uint8_t *message, size_t length)
     }
     hex(kept + strlen(kept), message, length);
     strcat(kept, " ");
+    return 0;
 }
 
 static void expect_messages(const char *what, const char *wanted)
@@ -84,27 +97,35 @@ static void numbers(void)
     static const unsigned is[] = {IDSM_DONE, IDSM_UNSET, IDSM_OTHER_ROLE, IDSM_LOST, IDSM_WITHOUT_CONTEXT,
                                   IDSM_UNKNOWN_EVENT, IDSM_ZERO_COUNT, IDSM_SPENT, IDSM_TICK_BACK,
                                   IDSM_TICK_TOO_LARGE, IDSM_OUT_OF_RANGE, IDSM_NO_MEMORY, IDSM_CONFIGURATION,
-                                  IDSM_SMALL_BUFFER, IDSM_OCCUPIED, IDSM_NULL, IDSM_BUSY, IDSM_CLOSED};
+                                  IDSM_SMALL_BUFFER, IDSM_OCCUPIED, IDSM_NULL, IDSM_BUSY, IDSM_CLOSED,
+                                  IDSM_NOT_SENT, IDSM_OTHER_CONFIGURATION};
     static const unsigned modes[] = {IDSM_MODE_OFF, IDSM_MODE_BRIEF, IDSM_MODE_DETAILED, IDSM_MODE_BRIEF_BYPASSING,
                                      IDSM_MODE_DETAILED_BYPASSING};
     for (unsigned i = 0; i < sizeof is / sizeof is[0]; i++)
         expect("an answer's number", i, is[i]);
     for (unsigned i = 0; i < sizeof modes / sizeof modes[0]; i++)
         expect("a mode's number", i, modes[i]);
-    expect("IDSM_ABI", 3, IDSM_ABI);
-    expect("idsm_abi", 3, idsm_abi());
+    expect("IDSM_ABI", 4, IDSM_ABI);
+    expect("idsm_abi", 4, idsm_abi());
+#ifdef STAND_IN
+    expect("idsm_build", 0, (uint64_t)(strcmp(idsm_build(), "stand-in: nothing of it is proved") != 0));
+#else
+    expect("idsm_build", 0, (uint64_t)(strncmp(idsm_build(), "idsm 4, proved, logic ", 22) != 0));
+    expect("its length", 22 + 16 + 10 + 16, strlen(idsm_build()));
+#endif
     expect("IDSM_MOST_CALLERS", 32, IDSM_MOST_CALLERS);
     expect("IDSM_MOST_MESSAGE", 1044, IDSM_MOST_MESSAGE);
     expect("a caller", 16, sizeof(idsm_caller));
     expect("whether it is stopped", 8, offsetof(idsm_caller, stopped));
-    expect("a manager", 32, sizeof(idsm_manager));
+    expect("a manager", 48, sizeof(idsm_manager));
     expect("whether it is stopped", 8, offsetof(idsm_manager, stopped));
+    expect("its sum", 12, offsetof(idsm_manager, sum));
     expect("a manager's callers", 16, offsetof(idsm_manager, callers));
     expect("their number", 24, offsetof(idsm_manager, count));
-    expect("a setup", 32, sizeof(idsm_setup));
-    expect("its bytes", 8, offsetof(idsm_setup, bytes));
-    expect("its room", 16, offsetof(idsm_setup, room));
-    expect("its journal", 24, offsetof(idsm_setup, journal));
+    expect("what is left", 32, offsetof(idsm_manager, rest));
+    expect("its bytes", 40, offsetof(idsm_manager, rest_bytes));
+    expect("options", 16, sizeof(idsm_options));
+    expect("their journal", 8, offsetof(idsm_options, journal));
     expect("a fault", 12, sizeof(idsm_fault));
     expect("its part", 4, offsetof(idsm_fault, part));
     expect("its place", 8, offsetof(idsm_fault, place));
@@ -140,6 +161,43 @@ static void numbers(void)
     expect("has_stamp", 39, offsetof(idsm_row, has_stamp));
 }
 
+/* Where the fields of a configuration stand: the proved library reads it as it is. */
+static void tables(void)
+{
+    expect("IDSM_NONE", UINT32_MAX, IDSM_NONE);
+    expect("IDSM_FIRST and IDSM_LAST", 1, IDSM_FIRST * 2u + IDSM_LAST);
+    expect("a window", 16, sizeof(idsm_window));
+    expect("its number", 8, offsetof(idsm_window, number));
+    expect("whether it is there", 12, offsetof(idsm_window, is_set));
+    expect("an aggregation", 16, sizeof(idsm_aggregate));
+    expect("its context", 8, offsetof(idsm_aggregate, context));
+    expect("whether it is there", 9, offsetof(idsm_aggregate, is_set));
+    expect("a class", 8, sizeof(idsm_class));
+    expect("its number", 4, offsetof(idsm_class, number));
+    expect("an event", 64, sizeof(idsm_event));
+    expect("its threshold", 16, offsetof(idsm_event, threshold));
+    expect("its id", 32, offsetof(idsm_event, id));
+    expect("its nth", 36, offsetof(idsm_event, nth));
+    expect("its sensor", 40, offsetof(idsm_event, sensor));
+    expect("its version", 42, offsetof(idsm_event, version));
+    expect("its mode", 44, offsetof(idsm_event, mode));
+    expect("its send", 45, offsetof(idsm_event, send));
+    expect("its store", 46, offsetof(idsm_event, store));
+    expect("its states", 47, offsetof(idsm_event, states));
+    expect("its block", 48, offsetof(idsm_event, block));
+    expect("the top", 72, sizeof(idsm_top));
+    expect("its traffic", 16, offsetof(idsm_top, traffic));
+    expect("its profile", 32, offsetof(idsm_top, profile));
+    expect("its instance", 36, offsetof(idsm_top, instance));
+    expect("its callers", 40, offsetof(idsm_top, callers));
+    expect("its ring", 44, offsetof(idsm_top, ring));
+    expect("its memory", 48, offsetof(idsm_top, memory));
+    expect("its state", 52, offsetof(idsm_top, state));
+    expect("its lost_events", 56, offsetof(idsm_top, lost_events));
+    expect("its lost_contexts", 60, offsetof(idsm_top, lost_contexts));
+    expect("its limited", 64, offsetof(idsm_top, limited));
+}
+
 /* What tools/c_config made of answers.json. */
 static void made_header(void)
 {
@@ -148,10 +206,17 @@ static void made_header(void)
     expect("IDSM_CFG_CLASSES", 1, IDSM_CFG_CLASSES);
     expect("IDSM_CFG_EVENTS", 5, IDSM_CFG_EVENTS);
     expect("IDSM_CFG_RING", 4, IDSM_CFG_RING);
+    expect("IDSM_CFG_RECORDS", 2, IDSM_CFG_RECORDS);
+    expect("IDSM_CFG_LARGEST_CONTEXT", 8, IDSM_CFG_LARGEST_CONTEXT);
+    expect("IDSM_CFG_LONGEST_MESSAGE", 28, IDSM_CFG_LONGEST_MESSAGE);
+    /* 16 (4 + 5 + 3) + (4 + 8) (4 + 5). */
     expect("IDSM_CFG_BUFFER", 300, IDSM_CFG_BUFFER);
-    expect("IDSM_CFG_MEMORY", 7322, IDSM_CFG_MEMORY);
+#ifndef STAND_IN
     /* 67 + 4 (52 + 15) + 2 * 2 * 8. */
     expect("IDSM_CFG_JOURNAL", 355, IDSM_CFG_JOURNAL);
+#endif
+    expect("IDSM_CFG_SUM", SUM, IDSM_CFG_SUM);
+    expect("the manager's sum", SUM, idsm_sum(&IdsM_Unit.manager));
     expect("IDSM_EVENT_42", 42, IDSM_EVENT_42);
     expect("IDSM_EVENT_BAD_LOGIN", 4100, IDSM_EVENT_BAD_LOGIN);
     expect("the place of 42", 0, idsm_cfg_place(42));
@@ -165,33 +230,35 @@ static void made_header(void)
 #endif
 }
 
-static uint8_t make(const char *config, size_t count)
+static idsm_answer make(const char *config, size_t count)
 {
-    return idsm_init((const uint8_t *)config, strlen(config), IdsM_Unit.callers, count, &IdsM_Unit.manager,
-                     &IdsM_Unit.fault);
+    return idsm_init_text((const uint8_t *)config, strlen(config), NULL, IdsM_Unit.callers, count, &IdsM_Unit.manager,
+                          &IdsM_Unit.fault);
 }
 
-/* IdsM_Init with a configuration of one's own: blanks, then this text, of 16 (ring + 4) bytes of messages a turn. */
-static uint8_t init_own(const char *text)
+/* A text of one's own, of 16 (ring + 4) bytes of messages a turn, for two callers and a buffer of 300 bytes. */
+static idsm_answer init_own(const char *text)
 {
-    static char own[600];
-    IdsM_ConfigType config = {(const uint8_t *)own, sizeof IDSM_CFG_BYTES + strlen(text)};
-    memset(own, ' ', sizeof own);
-    memcpy(own + sizeof IDSM_CFG_BYTES, text, strlen(text));
-    return IdsM_Init(&config);
+    static const idsm_options options = {300, 0};
+    return idsm_init_text((const uint8_t *)text, strlen(text), &options, IdsM_Unit.callers, 2, &IdsM_Unit.manager,
+                          &IdsM_Unit.fault);
 }
 
 static void own_configurations(void)
 {
+    idsm_config other = IdsM_Config;
     idsm_totals totals;
+    expect("IdsM_Init of another configuration", 19, IdsM_Init(&other));
+    expect("a caller after that", 1, IdsM_SetSecurityEvent(42));
     expect("other callers", 10, init_own("{\"form\":1,\"instance\":19,\"ring\":4,\"events\":[{\"id\":43,\"sensor\":3}]}"));
     expect("304 bytes of messages", 13,
            init_own("{\"form\":1,\"instance\":19,\"callers\":2,\"ring\":15,\"events\":[{\"id\":43,\"sensor\":3}]}"));
     expect("a caller after that", 1, IdsM_SetSecurityEvent(42));
     expect("288 bytes of messages", 0,
-           init_own("{\"form\":1,\"instance\":19,\"callers\":2,\"ring\":14,\"events\":[{\"id\":43,\"sensor\":3}]}"));
-    expect("the event at the place of 42", 0, IdsM_SetSecurityEvent(42));
-    expect_turn("the event at the place of 42", "1004c3002b000100 ");
+           init_own("{\"form\":2,\"instance\":19,\"callers\":2,\"ring\":14,\"events\":[{\"id\":43,\"sensor\":3}]}"));
+    expect("the sum of a text", 0, idsm_sum(&IdsM_Unit.manager));
+    expect("the first event of it", 0, IdsM_SetSecurityEvent(42));
+    expect_turn("a message of profile 2", "2004c3002b000100 ");
     expect("a place that it lacks", 5, IdsM_SetSecurityEvent(4100));
     expect("a close of it", 0, IdsM_DeInit(&totals));
     memset(&IdsM_Unit, 0, sizeof IdsM_Unit);
@@ -229,21 +296,22 @@ static void making(void)
     expect("an unset caller", 1, IdsM_SetSecurityEvent(42));
     expect("an unset manager", 1, IdsM_MainFunction());
     expect("no configuration", 12, make("{}", 2));
-    expect("no bytes", 12, idsm_init(NULL, 0, callers, 1, &another, &fault));
+    expect("no bytes", 12, idsm_init_text(NULL, 0, NULL, callers, 1, &another, &fault));
+    expect("NULL as text", 15, idsm_init_text(NULL, 1, NULL, callers, 2, &another, &fault));
 #ifndef STAND_IN
     faults();
 #endif
-    expect("too few handles", 10, idsm_init(IDSM_CFG_BYTES, sizeof IDSM_CFG_BYTES, callers, 1, &another, &fault));
-    expect("too many handles", 10, idsm_init(IDSM_CFG_BYTES, sizeof IDSM_CFG_BYTES, callers, 33, &another, &fault));
-    expect("no handles", 10, idsm_init(IDSM_CFG_BYTES, sizeof IDSM_CFG_BYTES, NULL, 0, &another, &fault));
-    expect("NULL as configuration", 15, idsm_init(NULL, 1, callers, 2, &another, &fault));
-    expect("NULL as callers", 15, idsm_init(IDSM_CFG_BYTES, sizeof IDSM_CFG_BYTES, NULL, 2, &another, &fault));
-    expect("NULL as manager", 15, idsm_init(IDSM_CFG_BYTES, sizeof IDSM_CFG_BYTES, callers, 2, NULL, &fault));
-    expect("NULL as fault", 15, idsm_init(IDSM_CFG_BYTES, sizeof IDSM_CFG_BYTES, callers, 2, &another, NULL));
-    expect("IdsM_Init", 0, IdsM_Init(NULL));
+    expect("too few handles", 10, idsm_init(&IdsM_Config, NULL, callers, 1, &another, &fault));
+    expect("too many handles", 10, idsm_init(&IdsM_Config, NULL, callers, 33, &another, &fault));
+    expect("no handles", 10, idsm_init(&IdsM_Config, NULL, NULL, 0, &another, &fault));
+    expect("NULL as configuration", 15, idsm_init(NULL, NULL, callers, 2, &another, &fault));
+    expect("NULL as callers", 15, idsm_init(&IdsM_Config, NULL, NULL, 2, &another, &fault));
+    expect("NULL as manager", 15, idsm_init(&IdsM_Config, NULL, callers, 2, NULL, &fault));
+    expect("NULL as fault", 15, idsm_init(&IdsM_Config, NULL, callers, 2, &another, NULL));
+    expect("IdsM_Init", 0, IdsM_Init(&IdsM_Config));
     expect("IdsM_Init again", 14, IdsM_Init(NULL));
     expect("init over one that is taken", 14,
-           idsm_init(IDSM_CFG_BYTES, sizeof IDSM_CFG_BYTES, IdsM_Unit.callers, 2, &another, &fault));
+           idsm_init(&IdsM_Config, NULL, IdsM_Unit.callers, 2, &another, &fault));
     expect("its fault", 0, fault.number + fault.part + fault.place);
     for (unsigned i = 0; i < 33; i++)
         expect("a handle after a refusal", 1, callers[i].at == NULL);
@@ -262,7 +330,7 @@ static void no_memory(void)
     none = all;
     none.rlim_cur = 0;
     setrlimit(RLIMIT_AS, &none);
-    uint8_t answer = idsm_init((const uint8_t *)LARGE, sizeof LARGE - 1, callers, 1, &another, &fault);
+    uint8_t answer = idsm_init_text((const uint8_t *)LARGE, sizeof LARGE - 1, NULL, callers, 1, &another, &fault);
     setrlimit(RLIMIT_AS, &all);
     expect("no memory", 11, answer);
 }
@@ -336,7 +404,7 @@ static void refused_turns(void)
 {
     static uint8_t buffer[300];
     idsm_manager *manager = &IdsM_Unit.manager;
-    idsm_manager other = {NULL, 0, NULL, 0};
+    static idsm_manager other;
     idsm_sent sent;
     idsm_totals totals;
     expect("a tick back", 8, idsm_main(manager, 1, buffer, sizeof buffer, &sent));
@@ -367,6 +435,25 @@ static void refused_turns(void)
     expect("a manager freed before its last turn", 16, idsm_free(manager));
     expect("after all these", 0, IdsM_SetSecurityEvent(4100));
     expect_turn("after all these", "1004851004000100 ");
+}
+
+/* Messages that are not taken: each is sent once, in order, and no turn is made before the last of them. */
+static void refused_messages(void)
+{
+    kept[0] = 0;
+    tick++;
+    expect("a report", 0, IdsM_SetSecurityEventWithCount(4100, 1));
+    expect("another one", 0, IdsM_SetSecurityEventWithCount(4100, 2));
+    refused = 1;
+    expect("a turn of which no message is taken", 0, IdsM_MainFunction());
+    expect_messages("what was sent", "");
+    expect("a third report", 0, IdsM_SetSecurityEventWithCount(4100, 3));
+    refused = 1;
+    expect("a call that is refused again", 18, IdsM_MainFunction());
+    expect("what the last turn took", 2, IdsM_Unit.sent.entries);
+    expect("a turn", 0, IdsM_MainFunction());
+    expect("what it took", 1, IdsM_Unit.sent.entries);
+    expect_messages("all of them", "1004851004000100 1004851004000200 1004851004000300 ");
 }
 
 /* The same bytes before a page that nobody may read. */
@@ -498,8 +585,8 @@ static void memory(void)
     expect("row.bytes", 2, row.bytes);
     expect("row.event", 1, row.event);
     expect("row.id", 4100, row.id);
-    /* 1 + 258 + 1 + 3 + 1 + 4 + 1 + 5, one, four of five, one more, and the last. */
-    expect("row.occurrences", 281, row.occurrences);
+    /* 1 + 258 + 1 + 3 + 1 + 4 + 1 + 5, one, four of five, one more, 1 + 2 + 3, and the last. */
+    expect("row.occurrences", 287, row.occurrences);
     expect("row.sensor", 5, row.sensor);
     expect("row.has_stamp", 1, row.has_stamp);
     expect("its context", 0xa1b2, (unsigned)context[0] << 8 | context[1]);
@@ -507,7 +594,7 @@ static void memory(void)
     expect("the rows that it wants", 1, count);
     expect("a snapshot without room for a context", 13, idsm_snapshot(manager, rows, 2, context, 1, &count));
     expect("a snapshot", 0, idsm_snapshot(manager, rows, 2, context, 8, &count));
-    expect("its row's occurrences", 281, rows[0].occurrences);
+    expect("its row's occurrences", 287, rows[0].occurrences);
 #endif
 }
 
@@ -582,7 +669,7 @@ static void expect_no_reading(const char *what, uint8_t answer, idsm_manager *ma
 /* What is refused of the readings of a manager without a journal, and of its first caller. */
 static void refused_readings(idsm_manager *manager, idsm_caller *caller)
 {
-    idsm_manager other = {NULL, 0, NULL, 0};
+    static idsm_manager other;
     uint8_t mode = 9, text[4];
     size_t bytes = 9;
     expect_no_reading("a reading of NULL", 15, NULL, NULL);
@@ -600,20 +687,16 @@ static void refused_readings(idsm_manager *manager, idsm_caller *caller)
     expect("its bytes", 0, bytes);
 }
 
-static void setups(idsm_caller *callers, idsm_manager *manager)
+static void options(idsm_caller *callers, idsm_manager *manager)
 {
-    idsm_setup setup = {IDSM_CFG_BYTES, sizeof IDSM_CFG_BYTES, 299, 1}, none = {NULL, 0, 0, 0};
+    idsm_options asked = {299, 1};
     idsm_fault fault;
-    expect("a setup at NULL", 15, idsm_init_with(NULL, callers, 2, manager, &fault));
-    expect("a setup of nothing", 12, idsm_init_with(&none, callers, 2, manager, &fault));
-    none.bytes = 1;
-    expect("a setup with its configuration at NULL", 15, idsm_init_with(&none, callers, 2, manager, &fault));
-    expect("a setup with little room", 13, idsm_init_with(&setup, callers, 2, manager, &fault));
-    setup.room = 0;
-    expect("a setup with a caller too many", 10, idsm_init_with(&setup, callers, 3, manager, &fault));
-    setup.room = 300;
-    expect("a setup", 0, idsm_init_with(&setup, callers, 2, manager, &fault));
-    expect("a setup again", 14, idsm_init_with(&setup, callers, 2, manager, &fault));
+    expect("options with little room", 13, idsm_init(&IdsM_Config, &asked, callers, 2, manager, &fault));
+    asked.room = 0;
+    expect("options with a caller too many", 10, idsm_init(&IdsM_Config, &asked, callers, 3, manager, &fault));
+    asked.room = 300;
+    expect("options", 0, idsm_init(&IdsM_Config, &asked, callers, 2, manager, &fault));
+    expect("options again", 14, idsm_init(&IdsM_Config, &asked, callers, 2, manager, &fault));
 }
 
 /* Two turns of a manager with a journal, each with as many calls as there are event buffers: of ids 4100 and 9. The second
@@ -687,7 +770,7 @@ static void journals(void)
     idsm_sent sent;
     idsm_totals totals;
     uint64_t calls;
-    setups(callers, &manager);
+    options(callers, &manager);
     first_turn(callers, &manager, buffer);
     second_turn(callers, &manager, buffer);
     expect("a last report", 0, idsm_set_event_count(&callers[1], 4, 65535));
@@ -726,7 +809,7 @@ static void quiet_turns(void)
     idsm_fault fault;
     idsm_sent sent;
     idsm_totals totals;
-    expect("windows", 0, idsm_init((const uint8_t *)CONFIG, sizeof CONFIG - 1, &caller, 1, &manager, &fault));
+    expect("windows", 0, idsm_init_text((const uint8_t *)CONFIG, sizeof CONFIG - 1, NULL, &caller, 1, &manager, &fault));
     expect_quiet("a first turn", &manager, 1, 1);
     expect("a report", 0, idsm_set_event(&caller, 0));
     expect("a lost report", 3, idsm_set_event(&caller, 0));
@@ -800,7 +883,7 @@ static void closing(void)
     size_t count = 9;
     uint64_t number;
     expect("the version", 0, IdsM_GetVersionInfo(&info));
-    expect("its numbers", 10020300, info.vendorID * 10000000u + info.moduleID * 10000u + info.sw_major_version * 100u +
+    expect("its numbers", 10020400, info.vendorID * 10000000u + info.moduleID * 10000u + info.sw_major_version * 100u +
            info.sw_minor_version + info.sw_patch_version);
     expect("the version at NULL", 15, IdsM_GetVersionInfo(NULL));
     expect("a last report", 0, IdsM_SetSecurityEvent(4100));
@@ -809,11 +892,11 @@ static void closing(void)
     expect("the close", 0, IdsM_DeInit(&totals));
     expect_messages("the last turn", "1004851004000100 ");
 #ifdef STAND_IN
-    expect("totals.entries", 32, totals.entries);
-    expect("totals.messages", 24, totals.messages);
+    expect("totals.entries", 35, totals.entries);
+    expect("totals.messages", 27, totals.messages);
 #else
-    expect("totals.entries", 36, totals.entries);
-    expect("totals.messages", 25, totals.messages);
+    expect("totals.entries", 39, totals.entries);
+    expect("totals.messages", 28, totals.messages);
 #endif
     expect("totals.lost_events", 1, totals.lost_events);
     expect("totals.lost_contexts", 1, totals.lost_contexts);
@@ -844,6 +927,7 @@ static void closing(void)
 int main(void)
 {
     numbers();
+    tables();
     making();
     made_header();
 #ifndef WITHOUT_LIMITS
@@ -854,6 +938,7 @@ int main(void)
     refused_reports();
     refused_turns();
     walks();
+    refused_messages();
     modes();
     memory();
     refused_readings(&IdsM_Unit.manager, &IdsM_Unit.callers[0]);

@@ -18,7 +18,7 @@ enum { HEAD = 8 };
 
 /* Inits under way: how many take from the heap, and how often one began or ceased to fill an arena, in steps of FILLS. So
    FILLS is in it while one is filled. */
-enum { FILLS = 1 << 16 };
+#define FILLS ((uint32_t)1U << 16U)
 static uint32_t inits;
 
 /* The arena that is filled, from 0 to 0 if none is, and its first free block. */
@@ -41,56 +41,68 @@ static void begin_filling(char *arena, size_t bytes)
         unused->bytes = room;
         unused->next = NULL;
     }
-    __atomic_store_n(&begin, (uintptr_t)arena, __ATOMIC_RELEASE);
-    __atomic_store_n(&end, (uintptr_t)arena + bytes, __ATOMIC_RELEASE);
+    IDSM_STORE(&begin, (uintptr_t)arena);
+    IDSM_STORE(&end, (uintptr_t)arena + bytes);
 }
 
 static void end_filling(void)
 {
-    __atomic_store_n(&end, 0, __ATOMIC_RELEASE);
-    __atomic_store_n(&begin, 0, __ATOMIC_RELEASE);
+    IDSM_STORE(&end, (uintptr_t)0);
+    IDSM_STORE(&begin, (uintptr_t)0);
 }
 
-uint8_t idsm_own_open(const idsm_source *source)
+/* Adds to the inits under way, if none of these others is. */
+static idsm_answer add_inits(uint32_t others, uint32_t step)
 {
-    const uint32_t others = source->heap != NULL ? FILLS : 2 * FILLS - 1, step = source->heap != NULL ? 1 : FILLS;
-    uint32_t now = __atomic_load_n(&inits, __ATOMIC_RELAXED);
+    uint32_t now = IDSM_LOAD(&inits);
     do {
-        if ((now & others) != 0)
+        if ((now & others) != 0U) {
             return IDSM_BUSY;
-    } while (!__atomic_compare_exchange_n(&inits, &now, now + step, 0, __ATOMIC_SEQ_CST, __ATOMIC_RELAXED));
-    if (source->heap != NULL)
-        __atomic_store_n(&heap, source->heap, __ATOMIC_RELEASE);
-    else
-        begin_filling(source->arena, source->bytes);
+        }
+    } while (!IDSM_SWAP(&inits, &now, now + step));
     return IDSM_DONE;
+}
+
+idsm_answer idsm_own_open(const idsm_source *source)
+{
+    const int is_of_heap = (source->heap != NULL);
+    const idsm_answer answer = is_of_heap ? add_inits(FILLS, 1U) : add_inits((2U * FILLS) - 1U, FILLS);
+    if (answer == IDSM_DONE) {
+        if (is_of_heap) {
+            IDSM_STORE(&heap, source->heap);
+        } else {
+            begin_filling((char *)source->arena, source->bytes);
+        }
+    }
+    return answer;
 }
 
 void idsm_own_shut(const idsm_source *source)
 {
-    if (source->heap != NULL)
-        __atomic_fetch_sub(&inits, 1, __ATOMIC_SEQ_CST);
-    else {
+    if (source->heap != NULL) {
+        (void)add_inits(0U, UINT32_MAX);
+    } else {
         end_filling();
-        __atomic_fetch_add(&inits, FILLS, __ATOMIC_SEQ_CST);
+        (void)add_inits(0U, FILLS);
     }
 }
 
 /* Whether an arena is filled. Whoever takes memory meanwhile is who fills it, since no other init is under way. */
 static int is_filling(void)
 {
-    return (__atomic_load_n(&inits, __ATOMIC_ACQUIRE) & FILLS) != 0;
+    return (IDSM_LOAD(&inits) & FILLS) != 0U;
 }
 
 /* Whether a block is of the arena that is filled. Others may free blocks of the heap meanwhile, and see one arena follow
    another while they look: who fills an arena sees none come or go. */
 static int is_of_arena(const void *at)
 {
-    uint32_t before = __atomic_load_n(&inits, __ATOMIC_ACQUIRE);
-    uintptr_t to = __atomic_load_n(&end, __ATOMIC_ACQUIRE), from = __atomic_load_n(&begin, __ATOMIC_ACQUIRE);
-    if ((uintptr_t)at < from || (uintptr_t)at >= to)
-        return 0;
-    return (before & FILLS) != 0 && __atomic_load_n(&inits, __ATOMIC_ACQUIRE) == before;
+    const uint32_t before = IDSM_LOAD(&inits);
+    const uintptr_t to = IDSM_LOAD(&end);
+    const uintptr_t from = IDSM_LOAD(&begin);
+    const uint32_t after = IDSM_LOAD(&inits);
+    const int is_inside = ((uintptr_t)at >= from) && ((uintptr_t)at < to);
+    return is_inside && ((before & FILLS) != 0U) && (after == before);
 }
 
 static block *block_of(void *at)
@@ -161,14 +173,14 @@ static void *resize_block(void *at, size_t size)
 
 static const idsm_heap *own_heap(void)
 {
-    return __atomic_load_n(&heap, __ATOMIC_ACQUIRE);
+    return IDSM_LOAD(&heap);
 }
 
 /* What is told of memory that was taken, or was not. */
 static idsm_block told(void *at)
 {
-    idsm_block block = {at != NULL, at != NULL ? at : nothing};
-    return block;
+    const idsm_block given = {at != NULL, (at != NULL) ? at : nothing};
+    return given;
 }
 
 idsm_block rattle_alloc(size_t size, size_t align)

@@ -56,9 +56,13 @@ static long system_call(long number, long a, long b, long c)
 #endif
 }
 
-static const char CONFIG[] =
-    "{\"form\":1,\"instance\":18,\"callers\":1,\"ring\":8,\"memory\":2,\"classes\":[{\"size\":8,\"number\":2}],"
-    "\"events\":[{\"id\":42,\"sensor\":3},{\"id\":43,\"sensor\":3,\"send\":false,\"store\":true}]}";
+static const idsm_class classes[] = {{.size = 8, .number = 2}};
+static const idsm_event events[] = {{.id = 42, .nth = 1, .sensor = 3, .mode = IDSM_MODE_DETAILED, .send = 1},
+                                    {.id = 43, .nth = 1, .sensor = 3, .mode = IDSM_MODE_DETAILED, .store = 1}};
+static const idsm_config config = {
+    .top = {.profile = 1, .instance = 18, .callers = 1, .ring = 8, .memory = 2,
+            .lost_events = IDSM_NONE, .lost_contexts = IDSM_NONE, .limited = IDSM_NONE},
+    .classes = classes, .events = events, .class_count = 1, .event_count = 2};
 
 /* Each call but idsm_init and idsm_close, all answered as done. */
 static int calls(idsm_caller *caller, idsm_manager *manager, idsm_sent *sent)
@@ -93,8 +97,8 @@ static int run(void)
     idsm_totals totals;
     if (idsm_set_event(&caller, 0) != IDSM_UNSET)
         return 1;
-    idsm_setup setup = {(const uint8_t *)CONFIG, sizeof CONFIG - 1, sizeof buffer, 0};
-    if (idsm_init_in(&setup, arena, sizeof arena, &caller, 1, &manager, &fault) != IDSM_DONE)
+    static const idsm_options options = {sizeof buffer, 0};
+    if (idsm_init_in(&config, &options, arena, sizeof arena, &caller, 1, &manager, &fault) != IDSM_DONE)
         return 2;
     if (!calls(&caller, &manager, &sent) || sent.messages != 1)
         return 3;

@@ -1,4 +1,4 @@
-/* The inits that take their memory from the heap. They are a file of their own, so that a program that calls idsm_init_in
+/* The heap, and the init that takes its memory from it. They are a file of their own, so that a program that calls idsm_init_in
    alone needs no malloc. */
 #include "inner.h"
 
@@ -7,18 +7,12 @@ void *malloc(size_t size);
 void *realloc(void *at, size_t size);
 void free(void *at);
 
-static const idsm_heap heap = {malloc, realloc, free};
+const idsm_heap idsm_own_heap = {malloc, realloc, free};
 
-uint8_t idsm_init_with(const idsm_setup *setup, idsm_caller *callers, size_t count, idsm_manager *manager,
-                       idsm_fault *fault)
+idsm_answer idsm_init(const idsm_config *config, const idsm_options *options, idsm_caller *callers, size_t count,
+                      idsm_manager *manager, idsm_fault *fault)
 {
-    const idsm_source source = {&heap, NULL, 0};
-    return idsm_own_init(setup, &source, callers, count, manager, fault);
-}
-
-uint8_t idsm_init(const uint8_t *config, size_t bytes, idsm_caller *callers, size_t count, idsm_manager *manager,
-                  idsm_fault *fault)
-{
-    idsm_setup setup = {config, bytes, 0, 0};
-    return idsm_init_with(&setup, callers, count, manager, fault);
+    const idsm_source source = {&idsm_own_heap, NULL, 0U};
+    const idsm_making making = idsm_own_tables(config);
+    return idsm_own_init(&making, options, &source, callers, count, manager, fault);
 }

@@ -1,9 +1,8 @@
 /* Managers in arenas: IDSM_CFG_ARENA bytes are enough and one less is not, with a journal and without. They call nothing of the
    heap, and do what a manager of the heap does. An arena is used again once its manager was freed. Two tasks that fill
    arenas and one that takes from the heap get what they asked for or IDSM_BUSY. c/check links it with --wrap, so that each
-   call of the allocator comes here, and makes IdsM_Cfg.h with --arena of the same library. */
+   call of the allocator comes here, and makes IdsM_Cfg.h with the numbers of the same library. */
 #include "IdsM_Cfg.h"
-#include "idsm_c.h"
 
 #include <pthread.h>
 #include <sched.h>
@@ -69,12 +68,12 @@ typedef struct {
 } unit;
 
 static arena arenas[2];
-static unit units[3];
+static unit units[4];
 
-static idsm_setup setup_of(uint8_t journal)
+static idsm_options options_of(uint8_t journal)
 {
-    idsm_setup setup = {IDSM_CFG_BYTES, sizeof IDSM_CFG_BYTES, IDSM_CFG_BUFFER, journal};
-    return setup;
+    const idsm_options options = {IDSM_CFG_BUFFER, journal};
+    return options;
 }
 
 static size_t bytes_of(uint8_t journal)
@@ -96,14 +95,14 @@ static void expect_behind(const arena *in, size_t bytes)
 
 static uint8_t init_in(unit *own, void *at, size_t bytes, uint8_t journal)
 {
-    const idsm_setup setup = setup_of(journal);
-    return idsm_init_in(&setup, at, bytes, own->callers, IDSM_CFG_CALLERS, &own->manager, &own->fault);
+    const idsm_options options = options_of(journal);
+    return idsm_init_in(&IdsM_Config, &options, at, bytes, own->callers, IDSM_CFG_CALLERS, &own->manager, &own->fault);
 }
 
 static uint8_t init_of_heap(unit *own, uint8_t journal)
 {
-    const idsm_setup setup = setup_of(journal);
-    return idsm_init_with(&setup, own->callers, IDSM_CFG_CALLERS, &own->manager, &own->fault);
+    const idsm_options options = options_of(journal);
+    return idsm_init(&IdsM_Config, &options, own->callers, IDSM_CFG_CALLERS, &own->manager, &own->fault);
 }
 
 static void clear(unit *own)
@@ -124,7 +123,8 @@ static void expect_unset(const char *what, unit *own)
 static void refusals(uint8_t journal)
 {
     unit *own = &units[0];
-    idsm_setup setup = setup_of(journal);
+    idsm_options options = options_of(journal);
+    idsm_config empty = IdsM_Config;
     uint8_t *at = arenas[0].bytes;
     size_t bytes = bytes_of(journal);
     spoil(&arenas[0]);
@@ -134,16 +134,16 @@ static void refusals(uint8_t journal)
         expect("an arena of some bytes", IDSM_NO_MEMORY, init_in(own, at, small, journal));
     expect("an arena of half the bytes", IDSM_NO_MEMORY, init_in(own, at, bytes / 2, journal));
     expect("an arena of a byte less", IDSM_NO_MEMORY, init_in(own, at, bytes - 1, journal));
-    expect("a setup at NULL", IDSM_NULL,
-           idsm_init_in(NULL, at, bytes, own->callers, IDSM_CFG_CALLERS, &own->manager, &own->fault));
+    expect("a configuration at NULL", IDSM_NULL,
+           idsm_init_in(NULL, &options, at, bytes, own->callers, IDSM_CFG_CALLERS, &own->manager, &own->fault));
     expect("another number of callers", IDSM_OUT_OF_RANGE,
-           idsm_init_in(&setup, at, bytes, own->callers, 0, &own->manager, &own->fault));
-    setup.room = 1;
+           idsm_init_in(&IdsM_Config, &options, at, bytes, own->callers, 0, &own->manager, &own->fault));
+    options.room = 1;
     expect("a small buffer", IDSM_SMALL_BUFFER,
-           idsm_init_in(&setup, at, bytes, own->callers, IDSM_CFG_CALLERS, &own->manager, &own->fault));
-    setup.bytes /= 2;
-    expect("half a configuration", IDSM_CONFIGURATION,
-           idsm_init_in(&setup, at, bytes, own->callers, IDSM_CFG_CALLERS, &own->manager, &own->fault));
+           idsm_init_in(&IdsM_Config, &options, at, bytes, own->callers, IDSM_CFG_CALLERS, &own->manager, &own->fault));
+    empty.event_count = 0;
+    expect("a configuration without events", IDSM_CONFIGURATION,
+           idsm_init_in(&empty, &options, at, bytes, own->callers, IDSM_CFG_CALLERS, &own->manager, &own->fault));
     expect_unset("a handle after a refusal", own);
     expect_behind(&arenas[0], bytes);
 }
@@ -186,6 +186,18 @@ static uint64_t works(unit *own, uint8_t journal)
     return sum_of(sum_of(sum, contexts, count * 8), (const uint8_t *)rows, count * sizeof rows[0]);
 }
 
+/* The configuration as its text, of which a manager is to do the same. */
+static uint8_t text[1 << 20];
+static size_t text_bytes;
+
+static void read_text(const char *name)
+{
+    FILE *file = fopen(name, "rb");
+    text_bytes = file == NULL ? 0 : fread(text, 1, sizeof text, file);
+    if (file != NULL)
+        fclose(file);
+}
+
 static void free_unit(unit *own)
 {
     uint64_t number;
@@ -199,9 +211,11 @@ static void free_unit(unit *own)
 static void arenas_and_heap(uint8_t journal)
 {
     uint64_t sums[4];
-    size_t bytes = bytes_of(journal), before = heap_calls;
+    size_t bytes = bytes_of(journal), before;
+    const idsm_options options = options_of(journal);
     spoil(&arenas[0]);
     spoil(&arenas[1]);
+    before = heap_calls;
     expect("an arena", IDSM_DONE, init_in(&units[0], arenas[0].bytes, bytes, journal));
     expect("another arena", IDSM_DONE, init_in(&units[1], arenas[1].bytes, bytes, journal));
     expect("a handle that has something", IDSM_OCCUPIED, init_in(&units[0], arenas[1].bytes, bytes, journal));
@@ -221,6 +235,11 @@ static void arenas_and_heap(uint8_t journal)
     expect("calls of the heap as arenas are given back", 0, heap_calls - before);
     free_unit(&units[2]);
     expect("blocks of the heap that are left", 0, heap_blocks);
+    expect("a manager of the text", IDSM_DONE,
+           idsm_init_text(text, text_bytes, &options, units[3].callers, IDSM_CFG_CALLERS, &units[3].manager,
+                          &units[3].fault));
+    expect("whether it does what one of the tables does", 1, works(&units[3], journal) == sums[3]);
+    free_unit(&units[3]);
     for (int i = 0; i < 3; i++)
         expect("whether a manager does what one of the heap does", 1, sums[i] == sums[3]);
     expect_behind(&arenas[0], bytes);
@@ -268,8 +287,12 @@ static void tasks(void)
     expect_behind(&arenas[1], WITH_JOURNAL);
 }
 
-int main(void)
+int main(int words, char **word)
 {
+    if (words != 2)
+        return 2;
+    read_text(word[1]);
+    heap_blocks = 0; /* but those of the C library */
     for (uint8_t journal = 0; journal < 2; journal++) {
         refusals(journal);
         arenas_and_heap(journal);

@@ -1,7 +1,8 @@
 /* A control unit that keeps its journal: four tasks report beside the main function, which writes the lines of each turn to
    one file by pieces but for quiet turns, and its messages to another. The program idsm reads at most 16 MiB. So the manager is stopped if its
    journal has 4, and a second one, whose turns are not written, takes the rest of the million reports. It prints what both
-   took, and whether that is all that was reported. IdsM_Cfg.h is made of unit.json. Usage: journal JOURNAL MESSAGES */
+   took, and whether that is all that was reported. IdsM_Cfg.h is made of unit.json,
+   and IdsM.c is compiled with IDSM_JOURNAL 1. Usage: journal JOURNAL MESSAGES */
 #include <pthread.h>
 #include <sched.h>
 #include <stdatomic.h>
@@ -9,18 +10,11 @@
 #include <stdlib.h>
 #include <string.h>
 
-#include "idsm_c.h"
+#include "IdsM.h"
+#include "IdsM_Binding.h"
+#include "IdsM_Cfg.h"
 
 static _Thread_local idsm_caller *own_caller;
-static uint64_t ticks;
-static void send(const uint8_t *message, size_t length);
-#define IDSM_CALLER() own_caller
-#define IDSM_TICK() ticks++
-#define IDSM_SEND(message, length) send(message, length)
-#define IDSM_JOURNAL 1
-#include "IdsM.h"
-
-IdsM_UnitType IdsM_Unit;
 
 enum { TASKS = IDSM_CFG_CALLERS, REPORTS = 250000, FULL = 4 << 20 };
 
@@ -30,10 +24,11 @@ struct task {
 };
 
 static struct task tasks[TASKS];
-static _Atomic uint64_t reports[18], controls[18]; /* by what they were answered */
+static _Atomic uint64_t reports[20], controls[20]; /* by what they were answered */
 static atomic_int running;
 static FILE *journal, *messages; /* NULL: the turns are not written */
 static size_t written, turns;
+static uint8_t last_messages[IDSM_CFG_BUFFER];
 
 static void want(const char *what, int is_so)
 {
@@ -43,9 +38,27 @@ static void want(const char *what, int is_so)
     }
 }
 
-static void send(const uint8_t *message, size_t length)
+idsm_caller *unit_caller(void)
+{
+    return own_caller;
+}
+
+uint64_t unit_tick(void)
+{
+    static uint64_t ticks;
+    return ticks++;
+}
+
+int unit_send(const uint8_t *message, size_t length)
 {
     want("a message", messages == NULL || fwrite(message, 1, length, messages) == length);
+    return 0;
+}
+
+static idsm_answer send_last(void *to, const uint8_t *message, size_t length)
+{
+    (void)to;
+    return unit_send(message, length) == 0 ? IDSM_DONE : IDSM_NOT_SENT;
 }
 
 /* A quiet turn is left out: the journal tells the same without it. */
@@ -106,8 +119,8 @@ static void run(idsm_totals *totals)
         sched_yield();
     for (int i = 0; i < TASKS; i++)
         pthread_join(tasks[i].thread, NULL);
-    want("the last turn", idsm_last_send(&IdsM_Unit.manager, IDSM_TICK(), IdsM_Unit.messages, sizeof IdsM_Unit.messages,
-                                         IdsM_SendMessage, NULL, &IdsM_Unit.sent, totals) == IDSM_DONE);
+    want("the last turn", idsm_last_send(&IdsM_Unit.manager, unit_tick(), last_messages, sizeof last_messages, send_last,
+                                         NULL, &IdsM_Unit.sent, totals) == IDSM_DONE);
     write_last_lines();
     want("the end", idsm_free(&IdsM_Unit.manager) == IDSM_DONE);
     printf("turns %zu entries %llu messages %llu\n", turns, (unsigned long long)totals->entries,

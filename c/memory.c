@@ -1,10 +1,10 @@
-/* What a manager takes of memory: idsm_init takes IDSM_CFG_MEMORY bytes, in as many blocks as BLOCKS says where it is
-   defined, and none where it refuses. With a journal it takes IDSM_CFG_JOURNAL bytes more, in one block, which is room for the
-   lines of each turn. No call after it asks for any or gives any back, and after the close all are given back. And the other numbers of IdsM_Cfg.h: those of callers, classes, events and event buffers, and the bytes of a turn's
-   messages. c/check links it with --wrap, so that each call of the allocator comes here. With STAND_IN it is for
-   c/stand_in.c, which takes other bytes. */
+/* What a manager takes of memory: idsm_init takes IDSM_CFG_MEMORY bytes, in as many blocks as BLOCKS says if it is
+   defined, and none if it refuses. With a journal it takes IDSM_CFG_JOURNAL bytes more, in one block, which is room for the
+   lines of each turn. No call after it asks for any or gives any back, and after the close all are given back, also if the
+   manager was made of a text, whose file is the first word. And the other numbers of IdsM_Cfg.h: those of callers, classes,
+   events and event buffers, and the bytes of a turn's messages. c/check links it with --wrap, so that each call of the
+   allocator comes here. With STAND_IN it is for c/stand_in.c, which makes blocks of its own. */
 #include "IdsM_Cfg.h"
-#include "idsm_c.h"
 
 #include <stdio.h>
 #include <stdlib.h>
@@ -94,9 +94,8 @@ static int works(void)
     return done;
 }
 
-/* The bytes of the largest context data buffer, which c_config has counted in IDSM_CFG_BUFFER for each of these reports. */
-enum { REPORTS = IDSM_CFG_RING + IDSM_CFG_EVENTS, EACH = (IDSM_CFG_BUFFER - 16 * (REPORTS + 3)) / REPORTS };
-enum { LARGEST = EACH > 4 ? EACH - 4 : 1 };
+/* The bytes of the largest context data buffer. */
+enum { LARGEST = IDSM_CFG_LARGEST_CONTEXT > 0 ? IDSM_CFG_LARGEST_CONTEXT : 1 };
 
 /* Turns in which each event buffer has a report with a long line: with context data of the largest class, or with one byte,
    which all classes may hold. Answers whether all lines of each turn can be read. */
@@ -130,6 +129,25 @@ static void expect(const char *what, size_t wanted, size_t got)
     }
 }
 
+/* The longest context is kept, one of a byte more is not, and a message with a timestamp has at most as many bytes as is said. */
+static void contexts_of_any_length(void)
+{
+    static const uint8_t context[IDSM_CFG_LARGEST_CONTEXT + 1] = {1};
+    uint16_t event = 0;
+    size_t length = 0;
+    while (idsm_set_event(&callers[0], event) == IDSM_UNKNOWN_EVENT) /* an internal one */
+        event++;
+    expect("a turn", IDSM_DONE, idsm_main(&manager, 0, buffer, sizeof buffer, &sent));
+    expect("the longest context", IDSM_DONE,
+           idsm_set_event_at(&callers[0], event, 1, UINT64_MAX, context, IDSM_CFG_LARGEST_CONTEXT));
+    expect("a turn", IDSM_DONE, idsm_main(&manager, 0, buffer, sizeof buffer, &sent));
+    for (size_t at = 0; idsm_message(buffer, (size_t)sent.bytes, at, &length) == IDSM_DONE; at += length)
+        expect("whether a message is as long at most", 1, length <= IDSM_CFG_LONGEST_MESSAGE);
+    expect("a context of a byte more", IDSM_WITHOUT_CONTEXT,
+           idsm_set_event_context(&callers[0], event, context, IDSM_CFG_LARGEST_CONTEXT + 1));
+    expect("a turn", IDSM_DONE, idsm_main(&manager, 0, buffer, sizeof buffer, &sent));
+}
+
 /* The numbers of IdsM_Cfg.h, by what the library answers at and past them. idsm_init has looked at that of the callers. */
 static void numbers(void)
 {
@@ -145,27 +163,35 @@ static void numbers(void)
     expect("IDSM_CFG_RING", IDSM_LOST, idsm_set_state(&callers[0], 2));
     expect("a turn", IDSM_DONE, idsm_main(&manager, 0, buffer, sizeof buffer, &sent));
     expect("its entries", IDSM_CFG_RING, (size_t)sent.entries);
+    contexts_of_any_length();
+}
+
+static void clear_handles(void)
+{
+    static const idsm_caller no_caller;
+    static const idsm_manager no_manager;
+    for (unsigned i = 0; i < IDSM_CFG_CALLERS; i++)
+        callers[i] = no_caller;
+    manager = no_manager;
+}
+
+static void close_all(void)
+{
+    idsm_totals totals;
+    expect("idsm_close", IDSM_DONE, idsm_close(&manager, 8, buffer, sizeof buffer, &sent, &totals));
+    expect("the bytes that are left after the close", 0, taken + blocks);
 }
 
 /* A manager from its init to its close, with a journal or without. */
 static void run(uint8_t journal)
 {
-    static const idsm_caller no_caller;
-    static const idsm_manager no_manager;
-    idsm_setup setup = {IDSM_CFG_BYTES, sizeof IDSM_CFG_BYTES, sizeof buffer, journal};
+    const idsm_options options = {sizeof buffer, journal};
     idsm_fault fault;
-    idsm_totals totals;
-    for (unsigned i = 0; i < IDSM_CFG_CALLERS; i++)
-        callers[i] = no_caller;
-    manager = no_manager;
-    expect("idsm_init_with", IDSM_DONE, idsm_init_with(&setup, callers, IDSM_CFG_CALLERS, &manager, &fault));
-#ifdef STAND_IN
-    expect("whether idsm_init takes memory", 1, taken > 0);
-#else
+    clear_handles();
+    expect("idsm_init", IDSM_DONE, idsm_init(&IdsM_Config, &options, callers, IDSM_CFG_CALLERS, &manager, &fault));
     expect("the bytes that idsm_init takes", IDSM_CFG_MEMORY + (journal ? IDSM_CFG_JOURNAL : 0), taken);
-#ifdef BLOCKS
+#if defined(BLOCKS) && !defined(STAND_IN)
     expect("the blocks that idsm_init takes", BLOCKS + journal, blocks);
-#endif
 #endif
     calls = 0;
     numbers();
@@ -173,19 +199,41 @@ static void run(uint8_t journal)
     if (journal)
         expect("whether all lines of each turn are told", 1, (size_t)tells_lines());
     expect("calls of the allocator before the close", 0, calls);
-    expect("idsm_close", IDSM_DONE, idsm_close(&manager, 8, buffer, sizeof buffer, &sent, &totals));
-    expect("the bytes that are left after the close", 0, taken + blocks);
+    close_all();
 }
 
-int main(void)
+/* A manager of the configuration's text, which does the same, and none of half of it. */
+static void run_of_text(const char *name)
+{
+    static uint8_t text[1 << 20];
+    idsm_fault fault;
+    FILE *file = fopen(name, "rb");
+    size_t bytes = file == NULL ? 0 : fread(text, 1, sizeof text, file);
+    if (file != NULL)
+        fclose(file);
+    clear_handles();
+    taken = blocks = 0; /* what the C library took for the file */
+    expect("an init of half a text", IDSM_CONFIGURATION,
+           idsm_init_text(text, bytes / 2, NULL, callers, IDSM_CFG_CALLERS, &manager, &fault));
+    expect("the bytes that are left after a refusal", 0, taken);
+    expect("idsm_init_text", IDSM_DONE,
+           idsm_init_text(text, bytes, NULL, callers, IDSM_CFG_CALLERS, &manager, &fault));
+    calls = 0;
+    numbers();
+    expect("whether each call does its work", 1, (size_t)works());
+    expect("calls of the allocator before the close", 0, calls);
+    close_all();
+}
+
+int main(int words, char **word)
 {
     idsm_fault fault;
-    expect("an init without its callers", IDSM_OUT_OF_RANGE,
-           idsm_init(IDSM_CFG_BYTES, sizeof IDSM_CFG_BYTES, NULL, 0, &manager, &fault));
-    expect("an init of half a configuration", IDSM_CONFIGURATION,
-           idsm_init(IDSM_CFG_BYTES, sizeof IDSM_CFG_BYTES / 2, callers, IDSM_CFG_CALLERS, &manager, &fault));
+    if (words != 2)
+        return 2;
+    expect("an init without its callers", IDSM_OUT_OF_RANGE, idsm_init(&IdsM_Config, NULL, NULL, 0, &manager, &fault));
     expect("the bytes that are left after a refusal", 0, taken);
     run(0);
     run(1);
+    run_of_text(word[1]);
     return failures == 0 ? 0 : 1;
 }

@@ -6,13 +6,12 @@
 #include <stdlib.h>
 
 #include "IdsM_Cfg.h"
-#include "idsm_c.h"
 
 enum { TASKS = 2, REPORTS = 200000 };
 
 struct task {
     pthread_t thread;
-    uint64_t number[18];
+    uint64_t number[20];
 };
 
 static idsm_caller callers[IDSM_CFG_CALLERS];
@@ -47,8 +46,8 @@ int main(void)
     idsm_fault fault;
     idsm_sent sent;
     idsm_totals totals;
-    uint64_t tick = 0, turns[18] = {0}, all[18] = {0}, sum = 0;
-    if (idsm_init(IDSM_CFG_BYTES, sizeof IDSM_CFG_BYTES, callers, IDSM_CFG_CALLERS, &manager, &fault) != IDSM_DONE)
+    uint64_t tick = 0, turns[20] = {0}, all[20] = {0}, sum = 0;
+    if (idsm_init(&IdsM_Config, NULL, callers, IDSM_CFG_CALLERS, &manager, &fault) != IDSM_DONE)
         return 1;
     for (int i = 0; i < TASKS; i++)
         if (pthread_create(&tasks[i].thread, NULL, report, &tasks[i]) != 0)
@@ -60,7 +59,7 @@ int main(void)
     pthread_join(reader.thread, NULL);
     for (int i = 0; i < TASKS; i++) {
         pthread_join(tasks[i].thread, NULL);
-        for (int k = 0; k < 18; k++)
+        for (int k = 0; k < 20; k++)
             all[k] += tasks[i].number[k];
     }
     if (idsm_close(&manager, tick, buffer, sizeof buffer, &sent, &totals) != IDSM_DONE)

@@ -1,7 +1,9 @@
-/* A stand-in for the proved library, for a first link in seconds: c/build --unproved. It reads callers, ring, classes and
-   events of a configuration, answers as idsm_c.h says, and sends each report as a message of profile 1. It has no filter
-   but the modes, no limit, no internal event and no event memory. A class has any number of context data buffers, so a
-   context is missing only if no class is large enough. It does not judge a configuration, and nothing of it is proved. */
+/* A stand-in for the proved library, for a first link in seconds: c/build --unproved. It reads profile, callers, ring, classes
+   and events of a configuration, answers as idsm_c.h says, and sends each report as a message. It has no filter but the
+   modes, no limit, no internal event and no event memory. A class has any number of context data buffers, so a context is
+   missing only if no class is large enough. A report that finds another call at work with its manager, and this
+   one does not end soon, is lost. It does not
+   judge a configuration, and nothing of it is proved. */
 #include <inttypes.h>
 #include <stdio.h>
 #include <string.h>
@@ -13,12 +15,13 @@ enum { MOST_EVENTS = 256, MOST_CLASSES = 4, MOST_RING = 1024, MOST_CONTEXT = 102
 struct event {
     uint32_t id;
     uint32_t sensor;
+    uint32_t version;
     uint8_t mode;
     uint8_t is_internal;
 };
 
 struct config {
-    uint32_t instance, callers, ring, state;
+    uint32_t form, profile, instance, callers, ring, state;
     uint32_t events, classes;
     struct event event[MOST_EVENTS];
     uint32_t size[MOST_CLASSES];
@@ -34,8 +37,7 @@ struct entry {
 
 struct unit {
     struct config config;
-    char lock;
-    uint32_t parts, waiting, lost_events, lost_contexts;
+    uint32_t lock, parts, waiting, lost_events, lost_contexts;
     uint64_t claims[MOST_CLASSES];
     idsm_status status;
     char *lines; /* of the last turn, where a journal is asked for */
@@ -49,9 +51,19 @@ struct part {
     uint8_t number, turns;
 };
 
-typedef struct {
-    struct part *at;
-} word;
+static struct part *part_of(const idsm_word *word)
+{
+    return (struct part *)word->at;
+}
+
+/* What a linker names if this library is linked where the proved one is wanted, or the other way round. */
+extern const char idsm_is_a_stand_in;
+const char idsm_is_a_stand_in = 1;
+
+const char *idsm_build(void)
+{
+    return "stand-in: nothing of it is proved";
+}
 
 /* The text of a configuration. */
 
@@ -169,6 +181,8 @@ static void read_event(struct reader *in, struct event *event)
             event->id = read_number(in, 65535);
         else if (strcmp(name, "sensor") == 0)
             event->sensor = read_number(in, 63);
+        else if (strcmp(name, "version") == 0)
+            event->version = read_number(in, 255);
         else if (strcmp(name, "mode") == 0) {
             read_text(in, text, sizeof text);
             event->mode = mode_of(text);
@@ -216,7 +230,11 @@ static int read_config(const uint8_t *bytes, size_t count, struct config *config
     config->ring = 64;
     wants(&in, '{');
     for (int first = 1; next_member(&in, first, name, sizeof name); first = 0) {
-        if (strcmp(name, "instance") == 0)
+        if (strcmp(name, "form") == 0)
+            config->form = read_number(&in, 2);
+        else if (strcmp(name, "profile") == 0)
+            config->profile = read_number(&in, 2);
+        else if (strcmp(name, "instance") == 0)
             config->instance = read_number(&in, 1023);
         else if (strcmp(name, "callers") == 0)
             config->callers = read_number(&in, IDSM_MOST_CALLERS);
@@ -237,20 +255,84 @@ static int read_config(const uint8_t *bytes, size_t count, struct config *config
         } else
             skip(&in);
     }
+    if (config->profile == 0)
+        config->profile = config->form == 2 ? 2 : 1;
     return !in.fails && config->events > 0 && config->callers > 0 && config->ring > 0;
+}
+
+/* The tables of a configuration. */
+
+static void take_event(const idsm_event *from, struct event *event)
+{
+    event->id = from->id;
+    event->sensor = from->sensor;
+    event->version = from->version;
+    event->mode = from->mode;
+}
+
+/* Marks the event that tells of something, if there is one. */
+static void take_internal(uint32_t place, struct config *config)
+{
+    if (place < config->events)
+        config->event[place].is_internal = 1;
+}
+
+static int take_config(const idsm_top *top, const idsm_class *classes, size_t class_count, const idsm_event *events,
+                       size_t event_count, struct config *config)
+{
+    if (class_count > MOST_CLASSES || event_count == 0 || event_count > MOST_EVENTS)
+        return 0;
+    config->profile = top->profile;
+    config->instance = top->instance;
+    config->callers = top->callers;
+    config->ring = top->ring;
+    config->state = top->state;
+    config->classes = (uint32_t)class_count;
+    config->events = (uint32_t)event_count;
+    for (size_t i = 0; i < class_count; i++)
+        config->size[i] = classes[i].size > MOST_CONTEXT ? MOST_CONTEXT : classes[i].size;
+    for (size_t i = 0; i < event_count; i++)
+        take_event(&events[i], &config->event[i]);
+    take_internal(top->lost_events, config);
+    take_internal(top->lost_contexts, config);
+    take_internal(top->limited, config);
+    return config->callers - 1 < IDSM_MOST_CALLERS && config->ring - 1 < MOST_RING;
 }
 
 /* Calls. */
 
-static void lock(struct unit *unit)
+/* Takes the lock, if whoever has it gives it back soon. It may be what an interrupt interrupted, so nobody waits longer. */
+static int locks(struct unit *unit)
 {
-    while (__atomic_test_and_set(&unit->lock, __ATOMIC_SEQ_CST)) {
+    for (int tries = 0; tries < 1000; tries++) {
+        uint32_t is_locked = 0;
+        if (IDSM_SWAP(&unit->lock, &is_locked, (uint32_t)1))
+            return 1;
     }
+    return 0;
 }
 
 static void unlock(struct unit *unit)
 {
-    __atomic_clear(&unit->lock, __ATOMIC_SEQ_CST);
+    IDSM_STORE(&unit->lock, (uint32_t)0);
+}
+
+/* Counts a loss without the lock. */
+static uint8_t lose_event(struct unit *unit)
+{
+    uint32_t lost = IDSM_LOAD(&unit->lost_events);
+    while (!IDSM_SWAP(&unit->lost_events, &lost, lost + 1)) {
+    }
+    return IDSM_LOST;
+}
+
+/* The losses that were counted since the turn before. */
+static uint32_t take_losses(struct unit *unit)
+{
+    uint32_t lost = IDSM_LOAD(&unit->lost_events);
+    while (!IDSM_SWAP(&unit->lost_events, &lost, (uint32_t)0)) {
+    }
+    return lost;
 }
 
 /* Zeros, by the calls of memory that the proved library makes. */
@@ -272,7 +354,7 @@ static struct part *new_part(struct unit *unit, uint8_t turns, uint32_t number)
     return part;
 }
 
-static uint8_t fill(struct unit *unit, word *callers, word *manager)
+static uint8_t fill(struct unit *unit, idsm_word *callers, idsm_word *manager)
 {
     manager->at = new_part(unit, 1, 0);
     for (uint32_t i = 0; i < unit->config.callers && manager->at != NULL; i++) {
@@ -294,17 +376,18 @@ uint32_t idsm_raw_abi(void)
     return IDSM_ABI;
 }
 
-uint8_t idsm_raw_init(const uint8_t *text, size_t bytes, uint8_t journal, word *callers, size_t count, word *manager,
-                      idsm_fault *fault)
+/* A configuration that is still to be read. */
+static struct config *new_config(void)
 {
-    struct config *config = zeros(sizeof *config);
-    uint8_t answer = IDSM_DONE;
-    (void)fault;
-    if (config == NULL)
-        return IDSM_NO_MEMORY;
-    if (!read_config(text, bytes, config))
-        answer = IDSM_CONFIGURATION;
-    else if (config->callers != count)
+    return zeros(sizeof(struct config));
+}
+
+/* Makes a unit of a configuration that was read, if it is one, and frees that. */
+static uint8_t make(struct config *config, int is_one, uint8_t journal, idsm_word *callers, size_t count,
+                    idsm_word *manager)
+{
+    uint8_t answer = is_one ? IDSM_DONE : IDSM_CONFIGURATION;
+    if (is_one && config->callers != count)
         answer = IDSM_OUT_OF_RANGE;
     size_t entries = config->ring * sizeof(struct entry), lines = journal ? (config->ring + 1) * MOST_LINE : 0;
     struct unit *unit = answer != IDSM_DONE ? NULL : zeros(sizeof *unit + entries + lines);
@@ -321,6 +404,26 @@ uint8_t idsm_raw_init(const uint8_t *text, size_t bytes, uint8_t journal, word *
     return answer;
 }
 
+uint8_t idsm_raw_init(const uint8_t *text, size_t bytes, uint8_t journal, idsm_word *callers, size_t count,
+                      idsm_word *manager, idsm_fault *fault)
+{
+    struct config *config = new_config();
+    (void)fault;
+    return config == NULL ? IDSM_NO_MEMORY
+                          : make(config, read_config(text, bytes, config), journal, callers, count, manager);
+}
+
+uint8_t idsm_raw_init_tables(const idsm_top *top, const idsm_class *classes, size_t class_count,
+                             const idsm_event *events, size_t event_count, uint8_t journal, idsm_word *callers,
+                             size_t count, idsm_word *manager, idsm_fault *fault)
+{
+    struct config *config = new_config();
+    (void)fault;
+    return config == NULL ? IDSM_NO_MEMORY
+                          : make(config, take_config(top, classes, class_count, events, event_count, config), journal,
+                                 callers, count, manager);
+}
+
 /* A free entry, under the lock; none where all wait. */
 static struct entry *new_entry(struct unit *unit)
 {
@@ -333,40 +436,90 @@ static int is_spent(struct part *caller)
     return caller->calls >= (uint64_t)1 << 40 || ++caller->calls == 0;
 }
 
-uint8_t idsm_raw_report(word *caller, uint16_t event, uint16_t count, uint8_t has_stamp, uint64_t stamp,
-                        const uint8_t *context, size_t bytes)
+/* What a report is about, and when. */
+struct told {
+    uint64_t stamp;
+    uint16_t event, count;
+    uint8_t has_stamp;
+};
+
+/* Puts the smallest class that fits and the context into an entry, or notes that there is none. */
+static void put_context(struct unit *unit, struct entry *entry, const uint8_t *context, size_t bytes)
 {
-    struct unit *unit = caller->at->unit;
-    uint8_t answer = IDSM_DONE;
-    if (caller->at->turns)
-        return IDSM_OTHER_ROLE;
-    if (event >= unit->config.events || unit->config.event[event].is_internal)
-        return IDSM_UNKNOWN_EVENT;
-    if (count == 0)
-        return IDSM_ZERO_COUNT;
-    if (is_spent(caller->at))
-        return IDSM_SPENT;
-    lock(unit);
-    struct entry *entry = new_entry(unit);
-    if (entry == NULL) {
-        unit->lost_events++;
-        answer = IDSM_LOST;
-    } else {
-        struct entry made = {stamp, caller->at->calls - 1, 0, event, count, 0, caller->at->number, has_stamp, 0, 0, 0, 0, {0}};
-        while (made.class_index < unit->config.classes && bytes > unit->config.size[made.class_index])
-            made.class_index++;
-        made.is_missing = bytes > 0 && made.class_index == unit->config.classes;
-        if (bytes > 0 && !made.is_missing) {
-            made.bytes = (uint16_t)bytes;
-            made.claim = unit->claims[made.class_index]++;
-            memcpy(made.context, context, bytes);
-        }
-        *entry = made;
-        unit->lost_contexts += made.is_missing;
-        answer = made.is_missing ? IDSM_WITHOUT_CONTEXT : IDSM_DONE;
+    while (entry->class_index < unit->config.classes && bytes > unit->config.size[entry->class_index])
+        entry->class_index++;
+    entry->is_missing = bytes > 0 && entry->class_index == unit->config.classes;
+    if (bytes > 0 && !entry->is_missing) {
+        entry->bytes = (uint16_t)bytes;
+        entry->claim = unit->claims[entry->class_index]++;
+        memcpy(entry->context, context, bytes);
     }
+}
+
+/* Makes an entry of a report, under the lock. */
+static uint8_t enter(struct part *caller, const struct told *told, const uint8_t *context, size_t bytes)
+{
+    struct unit *unit = caller->unit;
+    struct entry *entry = new_entry(unit);
+    if (entry == NULL)
+        return lose_event(unit);
+    struct entry made = {told->stamp, caller->calls - 1, 0, told->event, told->count, 0, caller->number,
+                         told->has_stamp, 0, 0, 0, 0, {0}};
+    put_context(unit, &made, context, bytes);
+    *entry = made;
+    unit->lost_contexts += made.is_missing;
+    return made.is_missing ? IDSM_WITHOUT_CONTEXT : IDSM_DONE;
+}
+
+static uint8_t report(idsm_word *word, const struct told *told, const uint8_t *context, size_t bytes)
+{
+    struct part *caller = part_of(word);
+    struct unit *unit = caller->unit;
+    if (caller->turns)
+        return IDSM_OTHER_ROLE;
+    if (told->event >= unit->config.events || unit->config.event[told->event].is_internal)
+        return IDSM_UNKNOWN_EVENT;
+    if (told->count == 0)
+        return IDSM_ZERO_COUNT;
+    if (is_spent(caller))
+        return IDSM_SPENT;
+    if (!locks(unit))
+        return lose_event(unit);
+    uint8_t answer = enter(caller, told, context, bytes);
     unlock(unit);
     return answer;
+}
+
+uint8_t idsm_raw_set_event(idsm_word *caller, uint16_t event)
+{
+    const struct told told = {0, event, 1, 0};
+    return report(caller, &told, NULL, 0);
+}
+
+uint8_t idsm_raw_set_event_count(idsm_word *caller, uint16_t event, uint16_t count)
+{
+    const struct told told = {0, event, count, 0};
+    return report(caller, &told, NULL, 0);
+}
+
+uint8_t idsm_raw_set_event_context(idsm_word *caller, uint16_t event, const uint8_t *context, size_t bytes)
+{
+    const struct told told = {0, event, 1, 0};
+    return report(caller, &told, context, bytes);
+}
+
+uint8_t idsm_raw_set_event_count_context(idsm_word *caller, uint16_t event, uint16_t count, const uint8_t *context,
+                                         size_t bytes)
+{
+    const struct told told = {0, event, count, 0};
+    return report(caller, &told, context, bytes);
+}
+
+uint8_t idsm_raw_set_event_at(idsm_word *caller, uint16_t event, uint16_t count, uint64_t stamp,
+                              const uint8_t *context, size_t bytes)
+{
+    const struct told told = {stamp, event, count, 1};
+    return report(caller, &told, context, bytes);
 }
 
 static uint8_t control(struct part *caller, uint16_t event, uint8_t mode)
@@ -375,7 +528,8 @@ static uint8_t control(struct part *caller, uint16_t event, uint8_t mode)
     if (is_spent(caller))
         return IDSM_SPENT;
     struct entry made = {0, caller->calls - 1, 0, event, 0, 0, caller->number, 0, 1, mode, 0, 0, {0}};
-    lock(unit);
+    if (!locks(unit))
+        return IDSM_LOST;
     struct entry *entry = new_entry(unit);
     if (entry != NULL)
         *entry = made;
@@ -383,18 +537,18 @@ static uint8_t control(struct part *caller, uint16_t event, uint8_t mode)
     return entry != NULL ? IDSM_DONE : IDSM_LOST;
 }
 
-uint8_t idsm_raw_set_state(word *caller, uint8_t state)
+uint8_t idsm_raw_set_state(idsm_word *caller, uint8_t state)
 {
-    return caller->at->turns ? IDSM_OTHER_ROLE : control(caller->at, MOST_EVENTS, state);
+    return part_of(caller)->turns ? IDSM_OTHER_ROLE : control(part_of(caller), MOST_EVENTS, state);
 }
 
-uint8_t idsm_raw_set_mode(word *caller, uint16_t event, uint8_t mode)
+uint8_t idsm_raw_set_mode(idsm_word *caller, uint16_t event, uint8_t mode)
 {
     if (mode > IDSM_MODE_DETAILED_BYPASSING)
         return IDSM_OUT_OF_RANGE;
-    if (caller->at->turns)
+    if (part_of(caller)->turns)
         return IDSM_OTHER_ROLE;
-    return event < caller->at->unit->config.events ? control(caller->at, event, mode) : IDSM_UNKNOWN_EVENT;
+    return event < part_of(caller)->unit->config.events ? control(part_of(caller), event, mode) : IDSM_UNKNOWN_EVENT;
 }
 
 static uint64_t most_bytes(const struct config *config)
@@ -405,10 +559,10 @@ static uint64_t most_bytes(const struct config *config)
     return 16 * (reports + 3) + (largest > 0 ? 4 + largest : 0) * reports;
 }
 
-uint8_t idsm_raw_buffer_size(word *manager, uint64_t *bytes)
+uint8_t idsm_raw_buffer_size(idsm_word *manager, uint64_t *bytes)
 {
-    *bytes = manager->at->turns ? most_bytes(&manager->at->unit->config) : 0;
-    return manager->at->turns ? IDSM_DONE : IDSM_OTHER_ROLE;
+    *bytes = part_of(manager)->turns ? most_bytes(&part_of(manager)->unit->config) : 0;
+    return part_of(manager)->turns ? IDSM_DONE : IDSM_OTHER_ROLE;
 }
 
 static uint8_t *write_number(uint8_t *at, uint64_t number, int bytes)
@@ -422,11 +576,11 @@ static uint8_t *write_message(uint8_t *at, const struct config *config, const st
 {
     const struct event *event = &config->event[entry->event];
     uint16_t bytes = event->mode == IDSM_MODE_BRIEF || event->mode == IDSM_MODE_BRIEF_BYPASSING ? 0 : entry->bytes;
-    at = write_number(at, 16u | (bytes > 0 ? 1u : 0u) | (entry->has_stamp ? 2u : 0u), 1);
+    at = write_number(at, config->profile << 4 | (bytes > 0 ? 1u : 0u) | (entry->has_stamp ? 2u : 0u), 1);
     at = write_number(at, config->instance * 64 + event->sensor, 2);
     at = write_number(at, event->id, 2);
     at = write_number(at, entry->count, 2);
-    at = write_number(at, 0, 1);
+    at = write_number(at, bytes > 0 && config->profile == 2 ? event->version : 0, 1);
     if (entry->has_stamp)
         at = write_number(at, entry->stamp, 8);
     if (bytes > 127)
@@ -454,10 +608,11 @@ static char *write_line(char *at, const struct entry *entry)
     return at + sprintf(at, "%s\n", entry->bytes > 0 ? "" : entry->is_missing ? "!" : "-");
 }
 
-static void write_lines(struct unit *unit)
+static void write_lines(struct unit *unit, const idsm_sent *sent)
 {
     char *at = unit->lines;
-    at += sprintf(at, "T %" PRIu64 " %u %u 0\n", unit->status.tick, unit->lost_events, unit->lost_contexts);
+    at += sprintf(at, "T %" PRIu64 " %" PRIu64 " %" PRIu64 " 0\n", unit->status.tick, sent->lost_events,
+                  sent->lost_contexts);
     for (uint32_t i = 0; i < unit->waiting; i++)
         at = write_line(at, &unit->entry[i]);
     unit->length = (size_t)(at - unit->lines);
@@ -479,18 +634,26 @@ static void take_entries(struct unit *unit, uint8_t *buffer, idsm_sent *sent)
     }
     sent->bytes = (uint64_t)(at - buffer);
     sent->entries = unit->waiting;
-    sent->lost_events = unit->lost_events;
+    sent->lost_events = take_losses(unit);
     sent->lost_contexts = unit->lost_contexts;
-    sent->quiet = sent->entries + sent->lost_events + sent->lost_contexts == 0;
     if (unit->lines != NULL)
-        write_lines(unit);
-    unit->waiting = unit->lost_events = unit->lost_contexts = 0;
+        write_lines(unit, sent);
+    unit->waiting = unit->lost_contexts = 0;
 }
 
-uint8_t idsm_raw_main(word *manager, uint64_t tick, uint8_t *buffer, size_t bytes, idsm_sent *sent)
+/* A turn that finds another call at work takes nothing but the losses. */
+static void take_nothing(struct unit *unit, idsm_sent *sent)
 {
-    struct unit *unit = manager->at->unit;
-    if (!manager->at->turns)
+    sent->lost_events = take_losses(unit);
+    if (unit->lines != NULL)
+        unit->length = (size_t)sprintf(unit->lines, "T %" PRIu64 " %" PRIu64 " 0 0\n", unit->status.tick,
+                                       sent->lost_events);
+}
+
+uint8_t idsm_raw_main(idsm_word *manager, uint64_t tick, uint8_t *buffer, size_t bytes, idsm_sent *sent)
+{
+    struct unit *unit = part_of(manager)->unit;
+    if (!part_of(manager)->turns)
         return IDSM_OTHER_ROLE;
     if (bytes < most_bytes(&unit->config))
         return IDSM_SMALL_BUFFER;
@@ -499,9 +662,12 @@ uint8_t idsm_raw_main(word *manager, uint64_t tick, uint8_t *buffer, size_t byte
     if (tick > (uint64_t)1 << 62)
         return IDSM_TICK_TOO_LARGE;
     unit->status.tick = tick;
-    lock(unit);
-    take_entries(unit, buffer, sent);
-    unlock(unit);
+    if (locks(unit)) {
+        take_entries(unit, buffer, sent);
+        unlock(unit);
+    } else
+        take_nothing(unit, sent);
+    sent->quiet = sent->entries + sent->lost_events + sent->lost_contexts == 0;
     sent->turn = unit->status.turns++;
     unit->status.entries += sent->entries;
     unit->status.lost_events += sent->lost_events;
@@ -510,62 +676,74 @@ uint8_t idsm_raw_main(word *manager, uint64_t tick, uint8_t *buffer, size_t byte
     return IDSM_DONE;
 }
 
-uint8_t idsm_raw_rows(word *manager, uint64_t *rows)
+uint8_t idsm_raw_rows(idsm_word *manager, uint64_t *rows)
 {
     *rows = 0;
-    return manager->at->turns ? IDSM_DONE : IDSM_OTHER_ROLE;
+    return part_of(manager)->turns ? IDSM_DONE : IDSM_OTHER_ROLE;
 }
 
-uint8_t idsm_raw_row_at(word *manager, uint16_t i, uint8_t *context, size_t bytes, idsm_row *row)
+uint8_t idsm_raw_row_at(idsm_word *manager, uint16_t i, uint8_t *context, size_t bytes, idsm_row *row)
 {
     (void)i, (void)context, (void)bytes, (void)row;
-    return manager->at->turns ? IDSM_OUT_OF_RANGE : IDSM_OTHER_ROLE;
+    return part_of(manager)->turns ? IDSM_OUT_OF_RANGE : IDSM_OTHER_ROLE;
 }
 
-uint8_t idsm_raw_late(word *manager, uint8_t class_index, uint64_t *late)
+uint8_t idsm_raw_late(idsm_word *manager, uint8_t class_index, uint64_t *late)
 {
     *late = 0;
-    if (!manager->at->turns)
+    if (!part_of(manager)->turns)
         return IDSM_OTHER_ROLE;
-    return class_index < manager->at->unit->config.classes ? IDSM_DONE : IDSM_OUT_OF_RANGE;
+    return class_index < part_of(manager)->unit->config.classes ? IDSM_DONE : IDSM_OUT_OF_RANGE;
 }
 
-uint8_t idsm_raw_status(word *manager, idsm_status *status)
+uint8_t idsm_raw_status(idsm_word *manager, idsm_status *status)
 {
-    if (manager->at->turns)
-        *status = manager->at->unit->status;
-    return manager->at->turns ? IDSM_DONE : IDSM_OTHER_ROLE;
+    if (part_of(manager)->turns)
+        *status = part_of(manager)->unit->status;
+    return part_of(manager)->turns ? IDSM_DONE : IDSM_OTHER_ROLE;
 }
 
-uint8_t idsm_raw_mode(word *manager, uint16_t event, uint8_t *mode)
+uint8_t idsm_raw_totals(idsm_word *manager, idsm_totals *totals)
 {
-    const struct config *config = &manager->at->unit->config;
-    if (!manager->at->turns)
+    const idsm_status *status = &part_of(manager)->unit->status;
+    if (!part_of(manager)->turns)
+        return IDSM_OTHER_ROLE;
+    totals->entries = status->entries;
+    totals->lost_events = status->lost_events;
+    totals->lost_contexts = status->lost_contexts;
+    totals->messages = status->messages;
+    return IDSM_DONE;
+}
+
+uint8_t idsm_raw_mode(idsm_word *manager, uint16_t event, uint8_t *mode)
+{
+    const struct config *config = &part_of(manager)->unit->config;
+    if (!part_of(manager)->turns)
         return IDSM_OTHER_ROLE;
     *mode = event < config->events ? config->event[event].mode : 0;
     return event < config->events ? IDSM_DONE : IDSM_OUT_OF_RANGE;
 }
 
-uint8_t idsm_raw_calls(word *caller, uint64_t *calls)
+uint8_t idsm_raw_calls(idsm_word *caller, uint64_t *calls)
 {
-    *calls = caller->at->turns ? 0 : caller->at->calls;
-    return caller->at->turns ? IDSM_OTHER_ROLE : IDSM_DONE;
+    *calls = part_of(caller)->turns ? 0 : part_of(caller)->calls;
+    return part_of(caller)->turns ? IDSM_OTHER_ROLE : IDSM_DONE;
 }
 
-uint8_t idsm_raw_journal(word *manager, uint64_t at, uint8_t *buffer, size_t size, uint64_t *bytes)
+uint8_t idsm_raw_journal(idsm_word *manager, uint64_t at, uint8_t *buffer, size_t size, uint64_t *bytes)
 {
-    const struct unit *unit = manager->at->unit;
+    const struct unit *unit = part_of(manager)->unit;
     *bytes = 0;
-    if (!manager->at->turns || unit->lines == NULL)
-        return manager->at->turns ? IDSM_OUT_OF_RANGE : IDSM_OTHER_ROLE;
+    if (!part_of(manager)->turns || unit->lines == NULL)
+        return part_of(manager)->turns ? IDSM_OUT_OF_RANGE : IDSM_OTHER_ROLE;
     for (; *bytes < size && at < unit->length; at++)
         buffer[(*bytes)++] = (uint8_t)unit->lines[at];
     return IDSM_DONE;
 }
 
-uint8_t idsm_raw_close(word *handle)
+uint8_t idsm_raw_close(idsm_word *handle)
 {
-    struct unit *unit = handle->at->unit;
+    struct unit *unit = part_of(handle)->unit;
     rattle_dealloc(handle->at);
     handle->at = NULL;
     if (--unit->parts == 0)

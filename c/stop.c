@@ -8,13 +8,12 @@
 #include <string.h>
 
 #include "IdsM_Cfg.h"
-#include "idsm_c.h"
 
 enum { TASKS = IDSM_CFG_CALLERS, ROUNDS = 200, REPORTS = 100 };
 
 struct task {
     pthread_t thread;
-    uint64_t number[18];
+    uint64_t number[20];
 };
 
 static idsm_caller callers[TASKS];
@@ -79,12 +78,12 @@ static int runs(int (*ends)(uint64_t, idsm_totals *), uint64_t *all)
 {
     idsm_fault fault;
     idsm_totals totals;
-    uint64_t number[18] = {0}, others = 0;
+    uint64_t number[20] = {0}, others = 0;
     memset(callers, 0, sizeof callers);
     memset(&manager, 0, sizeof manager);
     memset(tasks, 0, sizeof tasks);
     atomic_store(&reported, 0);
-    if (idsm_init(IDSM_CFG_BYTES, sizeof IDSM_CFG_BYTES, callers, TASKS, &manager, &fault) != IDSM_DONE)
+    if (idsm_init(&IdsM_Config, NULL, callers, TASKS, &manager, &fault) != IDSM_DONE)
         return 0;
     for (int i = 0; i < TASKS; i++)
         if (pthread_create(&tasks[i].thread, NULL, report, &tasks[i]) != 0)
@@ -92,10 +91,10 @@ static int runs(int (*ends)(uint64_t, idsm_totals *), uint64_t *all)
     int ended = ends(turns(), &totals);
     for (int i = 0; i < TASKS; i++) {
         pthread_join(tasks[i].thread, NULL);
-        for (int k = 0; k < 18; k++)
+        for (int k = 0; k < 20; k++)
             number[k] += tasks[i].number[k];
     }
-    for (int k = 0; k < 18; k++) {
+    for (int k = 0; k < 20; k++) {
         all[k] += number[k];
         if (k != IDSM_DONE && k != IDSM_LOST && k != IDSM_WITHOUT_CONTEXT && k != IDSM_CLOSED)
             others += number[k];
@@ -107,7 +106,7 @@ static int runs(int (*ends)(uint64_t, idsm_totals *), uint64_t *all)
 
 int main(void)
 {
-    uint64_t all[18] = {0};
+    uint64_t all[20] = {0};
     int right = 1;
     for (int round = 0; round < ROUNDS && right; round++)
         right = runs(round % 2 ? stops : closes, all);

@@ -1,32 +1,41 @@
-/* Two tasks that call the main function at once, beside a task that reports and one that closes: each report that was
-   accepted is sent once, as it was made, and the totals are those of all turns. IdsM_Cfg.h is made of unit.json. */
+/* Two tasks that call the main function at once, beside a task that reports and one that closes, while every third message is
+   refused: each report that was accepted is sent once, as it was made, and the totals are those of all turns. IdsM_Cfg.h is
+   made of unit.json. */
 #include <pthread.h>
 #include <sched.h>
 #include <stdatomic.h>
 #include <stdio.h>
 #include <stdlib.h>
 
-#include "idsm_c.h"
-
-static _Atomic uint64_t ticks;
-static void note(const uint8_t *message, size_t length);
-#define IDSM_CALLER() (&IdsM_Unit.callers[0])
-#define IDSM_TICK() atomic_load(&ticks)
-#define IDSM_SEND(message, length) note(message, length)
 #include "IdsM.h"
-
-IdsM_UnitType IdsM_Unit;
+#include "IdsM_Binding.h"
+#include "IdsM_Cfg.h"
 
 enum { TURNING = 2, REPORTS = 3000 };
 
 /* How often the report with each count was accepted, and sent. The manager's handle keeps the second one from two tasks. */
 static uint8_t accepted[65536], sent[65536];
-static uint64_t answers[TURNING][18];
+static uint64_t answers[TURNING][20];
 
-static void note(const uint8_t *message, size_t length)
+idsm_caller *unit_caller(void)
 {
-    if (length == 8 && message[3] * 256 + message[4] == IDSM_EVENT_BAD_FIRMWARE)
+    return &IdsM_Unit.callers[0];
+}
+
+uint64_t unit_tick(void)
+{
+    return 0;
+}
+
+/* Every third message is not taken at first. */
+int unit_send(const uint8_t *message, size_t length)
+{
+    static unsigned offered;
+    if (offered++ % 3 == 2)
+        return 1;
+    if (length == 8 && message[3] * 256u + message[4] == IDSM_EVENT_BAD_FIRMWARE)
         sent[message[5] * 256 + message[6]]++;
+    return 0;
 }
 
 static void *report(void *arg)
@@ -64,12 +73,14 @@ int main(void)
         if (pthread_create(&turning[i], NULL, make_turns, answers[i]) != 0)
             return 1;
     pthread_join(reporting, NULL);
-    while ((answer = IdsM_DeInit(&totals)) == IDSM_BUSY)
+    do {
         sched_yield();
+        answer = IdsM_DeInit(&totals);
+    } while (answer == IDSM_BUSY || answer == IDSM_NOT_SENT);
     for (int i = 0; i < TURNING; i++) {
         pthread_join(turning[i], NULL);
-        for (int number = 0; number < 18; number++)
-            others += number == IDSM_DONE || number == IDSM_BUSY || number == IDSM_CLOSED ? 0 : answers[i][number];
+        for (int number = 0; number < 20; number++)
+            others += number == IDSM_DONE || number == IDSM_BUSY || number == IDSM_CLOSED || number == IDSM_NOT_SENT ? 0 : answers[i][number];
     }
     for (unsigned i = 0; i < 65536; i++) {
         all += accepted[i];

@@ -1,30 +1,18 @@
 /* A control unit: four tasks report beside the main function, which prints the messages; then the event memory is read.
-   IdsM_Cfg.h is made of unit.json and unit.names. If it has IDSM_CFG_ARENA, all memory is an array of the unit. */
+   IdsM_Cfg.h is made of unit.json and unit.names; the binding is that of c/binding. If IdsM.c is compiled with IDSM_ARENA 1, it
+   needs no heap. */
 #include <pthread.h>
 #include <stdatomic.h>
 #include <stdio.h>
 #include <stdlib.h>
 
-#include "idsm_c.h"
+#include "IdsM.h"
+#include "IdsM_Binding.h"
+#include "IdsM_Cfg.h"
 
 static _Thread_local idsm_caller *own_caller;
-static uint64_t ticks;
-static void send(const uint8_t *message, size_t length);
-#define IDSM_CALLER() own_caller
-#define IDSM_TICK() ticks++
-#define IDSM_SEND(message, length) send(message, length)
-#include "IdsM.h"
-
-IdsM_UnitType IdsM_Unit;
 
 enum { TASKS = IDSM_CFG_CALLERS, REPORTS = 1000000 };
-
-#ifdef IDSM_CFG_ARENA
-static _Alignas(16) uint8_t arena[IDSM_CFG_ARENA];
-#define INIT() IdsM_InitIn(NULL, arena, sizeof arena)
-#else
-#define INIT() IdsM_Init(NULL)
-#endif
 
 struct task {
     pthread_t thread;
@@ -42,10 +30,22 @@ static void print_bytes(const uint8_t *bytes, uint64_t count)
     printf("\n");
 }
 
-static void send(const uint8_t *message, size_t length)
+idsm_caller *unit_caller(void)
+{
+    return own_caller;
+}
+
+uint64_t unit_tick(void)
+{
+    static uint64_t ticks;
+    return ticks++;
+}
+
+int unit_send(const uint8_t *message, size_t length)
 {
     if (!is_quiet)
         print_bytes(message, length);
+    return 0;
 }
 
 static void *report(void *arg)
@@ -90,7 +90,7 @@ int main(void)
     static const uint8_t context[3] = {0xc0, 0xff, 0xee};
     uint64_t accepted = 0, without_context = 0, lost = 0;
     idsm_totals totals;
-    want("init", INIT());
+    want("init", IdsM_Init(NULL));
     for (int i = 0; i < TASKS; i++)
         if (pthread_create(&tasks[i].thread, NULL, report, &tasks[i]) != 0)
             return 1;

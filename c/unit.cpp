@@ -3,16 +3,28 @@
 #include <thread>
 #include <vector>
 
-#include "idsm_c.h"
+#include "IdsM.h"
+#include "IdsM_Binding.h"
+#include "IdsM_Cfg.h"
 
 static thread_local idsm_caller *own_caller;
-static uint64_t ticks;
-#define IDSM_CALLER() own_caller
-#define IDSM_TICK() ticks++
-#define IDSM_SEND(message, length) std::printf("a message of %zu bytes, of event %u\n", length, message[3] * 256u + message[4])
-#include "IdsM.h"
 
-IdsM_UnitType IdsM_Unit;
+idsm_caller *unit_caller(void)
+{
+    return own_caller;
+}
+
+uint64_t unit_tick(void)
+{
+    static uint64_t ticks;
+    return ticks++;
+}
+
+int unit_send(const uint8_t *message, size_t length)
+{
+    std::printf("a message of %zu bytes, of event %u\n", length, message[3] * 256u + message[4]);
+    return 0;
+}
 
 static void task(unsigned number)
 {
