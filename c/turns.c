@@ -11,7 +11,7 @@
 #include "IdsM_Binding.h"
 #include "IdsM_Cfg.h"
 
-enum { TURNING = 2, REPORTS = 3000 };
+enum { TURNING = 2, REPORTS = 20000 };
 
 /* How often the report with each count was accepted, and sent. The manager's handle keeps the second one from two tasks. */
 static uint8_t accepted[65536], sent[65536];
@@ -31,6 +31,7 @@ uint64_t unit_tick(void)
 int unit_send(const uint8_t *message, size_t length)
 {
     static unsigned offered;
+    sched_yield(); /* so that others come in between */
     if (offered++ % 3 == 2)
         return 1;
     if (length == 8 && message[3] * 256u + message[4] == IDSM_EVENT_BAD_FIRMWARE)
