@@ -19,7 +19,7 @@ typedef uint16_t IdsM_SecurityEventIdType;
 typedef idsm_config IdsM_ConfigType;
 
 #ifndef IDSM_VERSION_INFO_TYPE
-typedef struct IdsM_VersionInfo {
+typedef struct IdsM_VersionInfoType {
     uint16_t vendorID;        /* IDSM_VENDOR_ID of the binding; 0 if there is none */
     uint16_t moduleID;        /* IDSM_MODULE_ID of the binding; 0 if there is none */
     uint8_t sw_major_version; /* IDSM_ABI */
@@ -30,7 +30,7 @@ typedef struct IdsM_VersionInfo {
 #endif
 
 /* What the module keeps beside the buffer for messages. Zeros before IdsM_Init; its handles are never copied or moved. */
-typedef struct IdsM_Unit {
+typedef struct IdsM_UnitType {
     idsm_manager manager;                   /* the handle of the manager, for the readings of idsm_c.h */
     idsm_fault fault;                       /* of the configuration, after IdsM_Init answered IDSM_CONFIGURATION */
     idsm_sent sent;                         /* what the last turn did */

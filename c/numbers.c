@@ -150,17 +150,24 @@ static uint8_t init_in(void *arena, size_t bytes, uint8_t journal)
     return answer;
 }
 
+/* An arena that is enough, and its bytes. */
+static void *some_arena(uint8_t journal, size_t *bytes)
+{
+    for (*bytes = FIRST_ARENA; *bytes <= MOST_ARENA; *bytes *= 2) {
+        void *arena = malloc(*bytes);
+        if (arena != NULL && init_in(arena, *bytes, journal) == IDSM_DONE)
+            return arena;
+        free(arena);
+    }
+    fprintf(stderr, "idsm_numbers: no arena is large enough\n");
+    exit(1);
+}
+
 /* The bytes of the least arena, by halves between one that is too small and one that is enough. */
 static size_t least_arena(uint8_t journal)
 {
-    size_t below = 0, enough = FIRST_ARENA;
-    void *arena = malloc(MOST_ARENA);
-    while (arena != NULL && enough < MOST_ARENA && init_in(arena, enough, journal) != IDSM_DONE)
-        enough *= 2;
-    if (arena == NULL || init_in(arena, enough, journal) != IDSM_DONE) {
-        fprintf(stderr, "idsm_numbers: no arena is large enough\n");
-        exit(1);
-    }
+    size_t below = 0, enough;
+    void *arena = some_arena(journal, &enough);
     while (enough - below > 1) {
         size_t half = below + (enough - below) / 2;
         if (init_in(arena, half, journal) == IDSM_DONE)

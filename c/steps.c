@@ -1,7 +1,8 @@
-/* A call that is interrupted at each of its atomic steps, by a call of another context: a report by a stop, a turn by a turn, a
-   close by a report and by a turn. Each report that was accepted is sent once and is in the totals, none is accepted after a
-   stop has come through, and none is answered that its own handle is busy. It has c/idsm_c.c with steps of its own, over
-   c/stand_in.c, and IdsM_Cfg.h of unit.json. */
+/* Two calls beside each other, step by step: one makes some of its atomic steps, then the other one makes some, then the first
+   ends, then the other one, for each two numbers. Reports, stops, turns and closes meet so. Each report that was accepted is
+   sent once and is in the totals, none is under way when a stop has come through, and none is answered that its own handle is
+   busy. It has c/idsm_c.c with steps of its own, over c/stand_in.c, and IdsM_Cfg.h of unit.json. */
+#define _XOPEN_SOURCE 700 /* for makecontext */
 static void between(void);
 #define IDSM_LOAD(at) (between(), __atomic_load_n((at), __ATOMIC_SEQ_CST))
 #define IDSM_STORE(at, value) (between(), __atomic_store_n((at), (value), __ATOMIC_RELEASE))
@@ -13,30 +14,71 @@ static void between(void);
 
 #include <stdio.h>
 #include <string.h>
+#include <ucontext.h>
 
 static int failures, checks;
 
-static void expect(const char *what, unsigned step, uint64_t wanted, uint64_t got)
+/* The two calls: what each has yet to do before the other one goes on, and whether it has ended. */
+enum { BYTES = 1 << 18, NOBODY = 2 };
+typedef void call(void);
+static ucontext_t contexts[2], all;
+static char stacks[2][BYTES];
+static call *calls[2];
+static unsigned left[2], has_ended[2], running = NOBODY;
+
+static void expect(const char *what, uint64_t wanted, uint64_t got)
 {
     checks++;
     if (wanted != got) {
-        printf("%s at step %u: %llu and not %llu\n", what, step, (unsigned long long)got, (unsigned long long)wanted);
+        printf("%s: %llu and not %llu, with %u and %u steps left\n", what, (unsigned long long)got,
+               (unsigned long long)wanted, left[0], left[1]);
         failures++;
     }
 }
 
-/* The interrupt, and before which step of a call it comes. */
-static void (*interrupt)(void);
-static unsigned step, interrupted;
+static void go_on(unsigned other)
+{
+    unsigned own = running;
+    running = other;
+    swapcontext(&contexts[own], &contexts[other]);
+}
 
 static void between(void)
 {
-    void (*comes)(void) = interrupt;
-    step++;
-    if (comes != NULL && step == interrupted) {
-        interrupt = NULL;
-        comes();
+    if (running == NOBODY || left[running] == 0)
+        return;
+    left[running]--;
+    if (left[running] == 0 && !has_ended[1 - running])
+        go_on(1 - running);
+}
+
+static void run(void)
+{
+    unsigned own = running;
+    calls[own]();
+    has_ended[own] = 1;
+    if (!has_ended[1 - own])
+        go_on(1 - own);
+    running = NOBODY;
+    setcontext(&all);
+}
+
+/* Runs both calls, each from so many steps on. */
+static void beside(call *one, unsigned first, call *other, unsigned second)
+{
+    calls[0] = one;
+    calls[1] = other;
+    left[0] = first;
+    left[1] = second;
+    for (int i = 0; i < 2; i++) {
+        has_ended[i] = 0;
+        getcontext(&contexts[i]);
+        contexts[i].uc_stack.ss_sp = stacks[i];
+        contexts[i].uc_stack.ss_size = sizeof stacks[i];
+        makecontext(&contexts[i], run, 0);
     }
+    running = 0;
+    swapcontext(&all, &contexts[0]);
 }
 
 static idsm_caller callers[IDSM_CFG_CALLERS];
@@ -44,115 +86,98 @@ static idsm_manager manager;
 static uint8_t buffer[IDSM_CFG_BUFFER];
 static idsm_sent told;
 static idsm_totals totals;
-
-/* How many messages were sent, and what the interrupt was answered; OTHERS where it did not come. */
-enum { OTHERS = 255 };
-static unsigned sent;
-static idsm_answer answer_of_interrupt, answer_of_report;
+static unsigned accepted, sent;
+static int is_stopped, is_closed;
 
 static idsm_answer count(void *to, const uint8_t *message, size_t length)
 {
     (void)to;
+    between();
     sent += length == 8 && message[4] == IDSM_EVENT_BAD_FIRMWARE;
     return IDSM_DONE;
 }
 
+static void report_of(unsigned caller)
+{
+    idsm_answer answer = idsm_set_event(&callers[caller], 1);
+    accepted += answer == IDSM_DONE;
+    expect("whether a report is accepted or closed", 1, answer == IDSM_DONE || answer == IDSM_CLOSED);
+    expect("whether it was under way when all were stopped", 0, answer == IDSM_DONE && is_stopped);
+}
+
 static void report(void)
 {
-    answer_of_report = answer_of_interrupt = idsm_set_event(&callers[1], 1);
+    report_of(0);
+}
+
+static void last_report(void)
+{
+    report_of(IDSM_CFG_CALLERS - 1);
 }
 
 static void stop(void)
 {
-    answer_of_interrupt = idsm_stop(&manager);
+    idsm_answer answer = idsm_stop(&manager);
+    is_stopped = answer == IDSM_DONE;
+    expect("a stop", 1, answer == IDSM_DONE || answer == IDSM_BUSY || answer == IDSM_CLOSED);
 }
 
 static void make_turn(void)
 {
-    answer_of_interrupt = idsm_main_send(&manager, 1, buffer, sizeof buffer, count, NULL, &told);
+    idsm_answer answer = idsm_main_send(&manager, 1, buffer, sizeof buffer, count, NULL, &told);
+    expect("a turn", 1, answer == IDSM_DONE || answer == IDSM_BUSY || answer == IDSM_CLOSED);
 }
 
-/* A manager with a report that waits; the next call is interrupted before that step. */
-static void begin(void (*comes)(void), unsigned at)
+static void close_all(void)
+{
+    idsm_answer answer = idsm_close_send(&manager, 1, buffer, sizeof buffer, count, NULL, &told, &totals);
+    is_closed += answer == IDSM_DONE;
+    expect("a close", 1, answer == IDSM_DONE || answer == IDSM_BUSY || answer == IDSM_CLOSED);
+}
+
+static void begin(void)
 {
     idsm_fault fault;
     memset(callers, 0, sizeof callers);
     memset(&manager, 0, sizeof manager);
-    expect("an init", at, IDSM_DONE, idsm_init(&IdsM_Config, NULL, callers, IDSM_CFG_CALLERS, &manager, &fault));
-    expect("a report", at, IDSM_DONE, idsm_set_event(&callers[0], 1));
-    sent = 0;
-    answer_of_interrupt = answer_of_report = OTHERS;
-    interrupt = comes;
-    interrupted = at;
-    step = 0;
+    expect("an init", IDSM_DONE, idsm_init(&IdsM_Config, NULL, callers, IDSM_CFG_CALLERS, &manager, &fault));
+    accepted = sent = 0;
+    is_stopped = is_closed = 0;
+    report();
 }
 
-/* Closes it, however often it takes, and compares what was sent and told. Returns whether the interrupt came. */
-static int ends(unsigned reports)
+/* One meeting, and what came of it. Returns whether both numbers of steps were made. */
+static int meet(call *one, unsigned first, call *other, unsigned second)
 {
-    int came = interrupt == NULL;
-    idsm_answer answer = IDSM_BUSY;
-    interrupt = NULL;
-    for (int tries = 0; tries < 3 && answer == IDSM_BUSY; tries++)
-        answer = idsm_close_send(&manager, 1, buffer, sizeof buffer, count, NULL, &told, &totals);
-    expect("the last close", interrupted, IDSM_DONE, answer);
-    expect("what was sent", interrupted, reports, sent);
-    expect("what was told", interrupted, reports, totals.entries);
-    return came;
+    begin();
+    beside(one, first, other, second);
+    is_stopped = 0;
+    if (!is_closed)
+        close_all();
+    expect("closes that came through", 1, (uint64_t)is_closed);
+    expect("messages that were sent", accepted, sent);
+    expect("reports in the totals", accepted, totals.entries);
+    return left[0] == 0 && left[1] == 0;
 }
 
-static int report_by_stop(unsigned at)
+static void meetings(call *one, call *other)
 {
-    begin(stop, at);
-    idsm_answer answer = idsm_set_event(&callers[0], 1);
-    if (answer_of_interrupt == IDSM_DONE)
-        expect("a report after a stop", at, IDSM_CLOSED, answer);
-    expect("whether it is accepted or closed", at, 1, answer == IDSM_DONE || answer == IDSM_CLOSED);
-    return ends(1 + (answer == IDSM_DONE));
-}
-
-static int turn_by_turn(unsigned at)
-{
-    begin(make_turn, at);
-    idsm_answer answer = idsm_main_send(&manager, 1, buffer, sizeof buffer, count, NULL, &told);
-    expect("whether a turn is made", at, 1, answer == IDSM_DONE || answer_of_interrupt == IDSM_DONE);
-    return ends(1);
-}
-
-/* A close in which a report comes, and one in which a turn does. */
-static int close_by(void (*comes)(void), unsigned at)
-{
-    begin(comes, at);
-    idsm_answer answer = idsm_close_send(&manager, 1, buffer, sizeof buffer, count, NULL, &told, &totals);
-    expect("whether a report is accepted or closed", at, 1,
-           answer_of_report == OTHERS || answer_of_report == IDSM_DONE || answer_of_report == IDSM_CLOSED);
-    expect("whether a close comes through", at, 1, answer == IDSM_DONE || answer == IDSM_BUSY);
-    if (answer == IDSM_BUSY)
-        return ends(1 + (answer_of_report == IDSM_DONE));
-    expect("what a close sent", at, 1 + (answer_of_report == IDSM_DONE), sent);
-    expect("what it told", at, 1 + (answer_of_report == IDSM_DONE), totals.entries);
-    return interrupt == NULL;
-}
-
-static int close_by_report(unsigned at)
-{
-    return close_by(report, at);
-}
-
-static int close_by_turn(unsigned at)
-{
-    return close_by(make_turn, at);
+    unsigned first, second;
+    for (first = 1; meet(one, first, other, 1); first++) {
+        for (second = 2; meet(one, first, other, second); second++) {
+        }
+        expect("steps of the other one", 1, second > 1);
+    }
+    expect("steps of the first one", 1, first > 3);
 }
 
 int main(void)
 {
-    int (*const runs[])(unsigned) = {report_by_stop, turn_by_turn, close_by_report, close_by_turn};
-    for (unsigned i = 0; i < sizeof runs / sizeof runs[0]; i++) {
-        unsigned at = 1;
-        while (runs[i](at))
-            at++;
-        expect("how many steps were interrupted", at, 1, at > 3);
-    }
+    static call *const all_calls[] = {report, last_report, stop, make_turn, close_all};
+    for (unsigned i = 0; i < sizeof all_calls / sizeof all_calls[0]; i++)
+        for (unsigned k = 0; k < sizeof all_calls / sizeof all_calls[0]; k++)
+            if (i != k || i > 1)
+                meetings(all_calls[i], all_calls[k]);
     printf("%d checks, %d failed\n", checks, failures);
     return failures == 0 ? 0 : 1;
 }

@@ -6,6 +6,7 @@
 #include <stdatomic.h>
 #include <stdio.h>
 #include <stdlib.h>
+#include <unistd.h>
 
 #include "IdsM.h"
 #include "IdsM_Binding.h"
@@ -68,6 +69,7 @@ int main(void)
     idsm_totals totals;
     uint64_t all = 0, wrong = 0, others = 0;
     uint8_t answer;
+    alarm(300); /* what loses messages may never end */
     if (IdsM_Init(NULL) != IDSM_DONE || pthread_create(&reporting, NULL, report, NULL) != 0)
         return 1;
     for (int i = 0; i < TURNING; i++)
