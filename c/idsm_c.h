@@ -3,10 +3,11 @@
    Every call answers one of the numbers below, as an idsm_answer, if nothing else is said. Any answer but IDSM_DONE and
    IDSM_WITHOUT_CONTEXT leaves the handles as they were, but that a lost report and a lost control are counted.
 
-   Threads and interrupts. A call takes its handle by one atomic step, waits for nobody and takes no lock. Calls with different
-   handles may run at the same time, in any tasks and interrupts. A second call on one handle meanwhile is answered IDSM_BUSY
-   and does nothing. So a context that reports and may interrupt another one has a caller of its own. An init and what frees
-   (idsm_last, idsm_free, idsm_close and those that send) are for tasks: they call the allocator if the manager is of the heap.
+   Threads and interrupts. A call takes its handle by one atomic step, waits for nobody and takes no lock. Calls with
+   different handles may run at the same time, in any tasks and interrupts. A second call on one handle meanwhile is
+   answered IDSM_BUSY and does nothing. So a context that reports and may interrupt another one has a caller of its own. An
+   init and what frees (idsm_last, idsm_free, idsm_close and those that send) are for tasks: they call the allocator if the
+   manager is of the heap.
 
    Time. A report makes at most 4 atomic steps and 2 for each class that fits its context, and copies the context. A turn
    makes at most as many as there are event buffers and callers, and 4, beside the work on what it takes. Nothing else is
@@ -199,8 +200,8 @@ typedef struct idsm_status {
 typedef struct idsm_row {
     uint64_t first;       /* the tick at which it was stored first */
     uint64_t last;        /* the tick at which it was stored last */
-    uint64_t stamp;       /* the timestamp that was stored last; 0 if that report had none */
-    uint64_t bytes;       /* of the context data that were stored last; 0 if there were none */
+    uint64_t stamp;       /* the timestamp of what was stored last; it counts if has_stamp is 1 */
+    uint64_t bytes;       /* of the context data of what was stored last; 0 if there were none */
     uint16_t event;       /* its place in the configuration */
     uint16_t id;          /* its number in messages */
     uint16_t occurrences; /* the sum of the counts, at most 65,535 */
@@ -216,16 +217,16 @@ typedef struct idsm_clock {
 /* The number of the interface that the library was built with: compare it with IDSM_ABI. From any context. */
 uint32_t idsm_abi(void);
 
-/* Which library this is: "idsm 4, proved, logic SUM, sources SUM", or "stand-in: nothing of it is proved". Never NULL. From any
-   context. */
+/* Which library this is: "idsm 4, proved, logic SUM, sources SUM", or "stand-in: nothing of it is proved". Never NULL. From
+   any context. */
 const char *idsm_build(void);
 
-/* The sum of the tables that the manager was made of; 0 for NULL, before an init, and if it was made of a text. From any context
-   after the init has returned. */
+/* The sum of the tables that the manager was made of; 0 for NULL, before an init, and if it was made of a text. From any
+   context after the init has returned. */
 uint32_t idsm_sum(const idsm_manager *manager);
 
-/* Makes a manager of tables, with all memory from the heap: fills a handle for each caller of the configuration, and one for the
-   manager. All of them have to be zeros. `options` may be NULL. From a task; once for these handles.
+/* Makes a manager of tables, with all memory from the heap: fills a handle for each caller of the configuration, and one
+   for the manager. All of them have to be zeros. `options` may be NULL. From a task; once for these handles.
      IDSM_DONE              all handles are filled
      IDSM_NULL              a pointer is NULL; `classes` and `events` may be if they have a count of 0
      IDSM_CONFIGURATION     *fault is the first fault of the configuration
@@ -238,20 +239,20 @@ uint32_t idsm_sum(const idsm_manager *manager);
 idsm_answer idsm_init(const idsm_config *config, const idsm_options *options, idsm_caller *callers, size_t count,
                       idsm_manager *manager, idsm_fault *fault);
 
-/* The same with all memory from `arena`: IDSM_CFG_ARENA bytes, and IDSM_CFG_ARENA_JOURNAL more with a journal, are enough, and
-   one less is IDSM_NO_MEMORY. It has to be aligned to 16, else IDSM_OUT_OF_RANGE. IDSM_BUSY if another init is under way, and
-   so is each init while this one is. The arena belongs to the manager until it is freed, and can then be used again. A
-   program that calls no other init needs no malloc. */
+/* The same with all memory from `arena`: IDSM_CFG_ARENA bytes, and IDSM_CFG_ARENA_JOURNAL more with a journal, are enough,
+   and one less is IDSM_NO_MEMORY. It has to be aligned to 16, else IDSM_OUT_OF_RANGE. IDSM_BUSY if another init is under
+   way, and so is each init while this one is. The arena belongs to the manager until it is freed, and can then be used
+   again. A program that calls no other init needs no malloc. */
 idsm_answer idsm_init_in(const idsm_config *config, const idsm_options *options, void *arena, size_t bytes,
                          idsm_caller *callers, size_t count, idsm_manager *manager, idsm_fault *fault);
 
-/* The same of the JSON text of a configuration, with all memory from the heap. It takes far more stack. A program that does not
-   call it, linked with -Wl,--gc-sections, has no reader of JSON. */
+/* The same of the JSON text of a configuration, with all memory from the heap. It takes far more stack. A program that does
+   not call it, linked with -Wl,--gc-sections, has no reader of JSON. */
 idsm_answer idsm_init_text(const uint8_t *text, size_t bytes, const idsm_options *options, idsm_caller *callers,
                            size_t count, idsm_manager *manager, idsm_fault *fault);
 
-/* Reports. An event is its place in the configuration, from 0. (NULL, 0) is no context. From any task or interrupt that has this
-   caller for itself; the context is copied before the call returns.
+/* Reports. An event is its place in the configuration, from 0. (NULL, 0) is no context. From any task or interrupt that has
+   this caller for itself; the context is copied before the call returns.
      IDSM_DONE            reported, and the next turns take it
      IDSM_WITHOUT_CONTEXT reported without its context, which is counted as lost: no buffer that fits was free, or none is
                           large enough
@@ -270,8 +271,9 @@ idsm_answer idsm_set_event_count_context(idsm_caller *caller, uint16_t event, ui
 idsm_answer idsm_set_event_at(idsm_caller *caller, uint16_t event, uint16_t count, uint64_t stamp,
                               const uint8_t *context, size_t bytes);
 
-/* Controls: another block state, or another reporting mode of an event, for all reports that come after it. They take an event
-   buffer, and answer as reports do. A lost control is not among the lost events. IDSM_OUT_OF_RANGE: there is no such mode. */
+/* Controls: another block state, or another reporting mode of an event, for all reports that come after it. They take an
+   event buffer, and answer as reports do. A lost control is not among the lost events. IDSM_OUT_OF_RANGE: there is no such
+   mode. */
 idsm_answer idsm_set_state(idsm_caller *caller, uint8_t state);
 idsm_answer idsm_set_mode(idsm_caller *caller, uint16_t event, uint8_t mode);
 
@@ -285,8 +287,8 @@ idsm_answer idsm_buffer_size(idsm_manager *manager, uint64_t *bytes);
 /* Makes a turn: takes what was reported, filters it, and writes the messages to the front of the buffer. *sent is zeros if
    none was made, so two tasks that may call it at once need a `sent` and a buffer each. From a task, or from one interrupt.
      IDSM_DONE            the turn was made
-     IDSM_TICK_BACK, IDSM_TICK_TOO_LARGE  no turn can have this tick. A tick that is by mistake too far ahead cannot be taken back:
-                          each smaller one is then refused
+     IDSM_TICK_BACK, IDSM_TICK_TOO_LARGE  no turn can have this tick. A tick that is by mistake too far ahead cannot be
+                          taken back: each smaller one is then refused
      IDSM_SMALL_BUFFER    the buffer has less than the bytes of idsm_buffer_size
      IDSM_BUSY            another call works with the manager
      IDSM_NOT_SENT        idsm_main_send has messages left that were not taken
@@ -296,17 +298,17 @@ idsm_answer idsm_buffer_size(idsm_manager *manager, uint64_t *bytes);
    At each answer but IDSM_DONE no turn was made, and what was reported is there for the next one. */
 idsm_answer idsm_main(idsm_manager *manager, uint64_t tick, uint8_t *buffer, size_t bytes, idsm_sent *sent);
 
-/* Takes one message, which is valid during the call alone: `to` is what idsm_main_send was given. It returns IDSM_DONE if it took
-   the message, and anything else if it could not. It may report, but each call on the manager is answered IDSM_BUSY
+/* Takes one message, which is valid during the call alone: `to` is what idsm_main_send was given. It returns IDSM_DONE if
+   it took the message, and anything else if it could not. It may report, but each call on the manager is answered IDSM_BUSY
    meanwhile. */
 typedef idsm_answer idsm_send(void *to, const uint8_t *message, size_t length);
 
-/* Makes a turn and calls send(to, message, length) for each of its messages in order, all before it gives the manager's handle
-   back. From a task or one interrupt; several tasks may call it with the same buffer and `sent`, since it writes the buffer
-   only while it has the handle, and `sent` only if a turn was made.
-   If `send` does not take a message, this one and all after it are offered again at the next call, before it makes a turn.
-   Until all are taken no turn is made and the call answers IDSM_NOT_SENT, so the buffer has to stay as it is. The call that made the
-   turn answers IDSM_DONE all the same. The other answers are those of idsm_main. */
+/* Makes a turn and calls send(to, message, length) for each of its messages in order, all before it gives the manager's
+   handle back. From a task or one interrupt; several tasks may call it with the same buffer and `sent`, since it writes the
+   buffer only while it has the handle, and `sent` only if a turn was made. If `send` does not take a message, this one and
+   all after it are offered again at the next call, before it makes a turn. Until all are taken no turn is made and the call
+   answers IDSM_NOT_SENT, so the buffer has to stay as it is. The call that made the turn answers IDSM_DONE all the same.
+   The other answers are those of idsm_main. */
 idsm_answer idsm_main_send(idsm_manager *manager, uint64_t tick, uint8_t *buffer, size_t bytes, idsm_send *send,
                            void *to, idsm_sent *sent);
 
@@ -314,17 +316,17 @@ idsm_answer idsm_main_send(idsm_manager *manager, uint64_t tick, uint8_t *buffer
    From any context: it looks at nothing but the bytes. */
 idsm_answer idsm_message(const uint8_t *messages, size_t bytes, size_t at, size_t *length);
 
-/* The event memory as the last turn left it. From a task; IDSM_BUSY while a turn runs. How many records it has; the record i, from
-   the one stored longest ago on, with its context (IDSM_OUT_OF_RANGE if there is no such record, IDSM_SMALL_BUFFER if the
-   context has more than `bytes`); or all records as they are at one moment, with the context of record i at
-   contexts + i * each. IDSM_SMALL_BUFFER if there are more than `most`, and *count is then how many, or if a context is longer than
+/* The event memory as the last turn left it. From a task; IDSM_BUSY while a turn runs. How many records it has; the record
+   i, from the one stored longest ago on, with its context (IDSM_OUT_OF_RANGE if there is no such record, IDSM_SMALL_BUFFER
+   if the context has more than `bytes`); or all records as they are at one moment, with the context of record i at contexts
+   + i * each. IDSM_SMALL_BUFFER if there are more than `most`, and *count is then how many, or if a context is longer than
    `each`. */
 idsm_answer idsm_rows(idsm_manager *manager, uint64_t *rows);
 idsm_answer idsm_row_at(idsm_manager *manager, uint16_t i, uint8_t *context, size_t bytes, idsm_row *row);
 idsm_answer idsm_snapshot(idsm_manager *manager, idsm_row *rows, size_t most, uint8_t *contexts, size_t each,
                           size_t *count);
 
-/* How many context data buffers of a class wait to be given back: IDSM_OUT_OF_RANGE if there is no such class. From a task;
+/* How many context data buffers of a class wait for a place among the free ones: IDSM_OUT_OF_RANGE if there is no such class. From a task;
    IDSM_BUSY while a turn runs. */
 idsm_answer idsm_late(idsm_manager *manager, uint8_t class_index, uint64_t *late);
 
@@ -333,14 +335,14 @@ idsm_answer idsm_late(idsm_manager *manager, uint8_t class_index, uint64_t *late
 idsm_answer idsm_read_status(idsm_manager *manager, idsm_status *status);
 idsm_answer idsm_mode(idsm_manager *manager, uint16_t event, uint8_t *mode);
 
-/* The lines of the last turn as a journal has them (docs/FORMATS.md): as many bytes as fit, from byte `at` on, at the front of
-   the buffer. *bytes is how many: 0 at their end, and before the first turn. IDSM_OUT_OF_RANGE if no journal was asked for,
-   IDSM_SMALL_BUFFER if the init took no room for so long a turn. From the task that makes the turns; IDSM_BUSY while one
-   runs. */
+/* The lines of the last turn as a journal has them (docs/FORMATS.md): as many bytes as fit, from byte `at` on, at the front
+   of the buffer. *bytes is how many: 0 at their end, and before the first turn. IDSM_OUT_OF_RANGE if no journal was asked
+   for, IDSM_SMALL_BUFFER if the init took no room for so long a turn. From the task that makes the turns; IDSM_BUSY while
+   one runs. */
 idsm_answer idsm_journal(idsm_manager *manager, size_t at, uint8_t *buffer, size_t size, size_t *bytes);
 
-/* Stops the callers of a manager for good: a call that begins after it answers IDSM_CLOSED and is in no total. IDSM_DONE: no call
-   of them is under way any more. IDSM_BUSY: one is, or one of the manager; ask again. From a task. */
+/* Stops the callers of a manager for good: a call that begins after it answers IDSM_CLOSED and is in no total. IDSM_DONE:
+   no call of them is under way any more. IDSM_BUSY: one is, or one of the manager; ask again. From a task. */
 idsm_answer idsm_stop(idsm_manager *manager);
 
 /* Makes a last turn, which takes all that was reported, and frees the callers. The totals are those of all turns. What the
@@ -350,9 +352,10 @@ idsm_answer idsm_stop(idsm_manager *manager);
 idsm_answer idsm_last(idsm_manager *manager, uint64_t tick, uint8_t *buffer, size_t bytes, idsm_sent *sent,
                       idsm_totals *totals);
 
-/* The same, with the messages handed out as by idsm_main_send. IDSM_NOT_SENT: messages were not taken; call it again, until it
-   answers IDSM_DONE. Messages of the turn before come first, and while some of them are left no last turn is made, and *sent
-   and *totals are as they were. The call that makes the last turn tells *sent, this one and each later one tells *totals. */
+/* The same, with the messages handed out as by idsm_main_send. IDSM_NOT_SENT: messages were not taken; call it again, until
+   it answers IDSM_DONE. Messages of the turn before come first, and while some of them are left no last turn is made, and
+   *sent and *totals are as they were. The call that makes the last turn tells *sent, this one and each later one tells
+   *totals. */
 idsm_answer idsm_last_send(idsm_manager *manager, uint64_t tick, uint8_t *buffer, size_t bytes, idsm_send *send,
                            void *to, idsm_sent *sent, idsm_totals *totals);
 
@@ -375,8 +378,8 @@ idsm_answer idsm_close_send(idsm_manager *manager, uint64_t tick, uint8_t *buffe
     ((((uint64_t)(nanoseconds) & 0x3FFFFFFFU) << 32U) | ((uint64_t)(seconds) & 0xFFFFFFFFU))
 
 /* A tick of 32 bits that wraps, as one of 64 bits that does not: call it at least once each 2^32 ticks, from one task, with
-   ticks in their order. A tick that is by mistake before the last one counts as almost 2^32 ticks later, and a turn cannot go
-   back behind it. Returns `now` if there is no clock. */
+   ticks in their order. A tick that is by mistake before the last one counts as almost 2^32 ticks later, and a turn cannot
+   go back behind it. Returns `now` if there is no clock. */
 uint64_t idsm_widen(idsm_clock *clock, uint32_t now);
 
 #ifdef __cplusplus

@@ -1,7 +1,7 @@
 /* A control unit that keeps its journal: four tasks report beside the main function, which writes the lines of each turn to
-   one file by pieces but for quiet turns, and its messages to another. The program idsm reads at most 16 MiB. So the manager is stopped if its
-   journal has 4, and a second one, whose turns are not written, takes the rest of the million reports. It prints what both
-   took, and whether that is all that was reported. IdsM_Cfg.h is made of unit.json,
+   one file by pieces but for quiet turns, and its messages to another. The program idsm reads at most 16 MiB. So the manager
+   is stopped if its journal has 4, and a second one, whose turns are not written, takes the rest of the million reports. It
+   prints what both took, and whether that is all that was reported. IdsM_Cfg.h is made of unit.json,
    and IdsM.c is compiled with IDSM_JOURNAL 1. Usage: journal JOURNAL MESSAGES */
 #include <pthread.h>
 #include <sched.h>

@@ -129,7 +129,7 @@ static void expect(const char *what, size_t wanted, size_t got)
     }
 }
 
-/* The longest context is kept, one of a byte more is not, and a message with a timestamp has at most as many bytes as is said. */
+/* The longest context is kept, one of a byte more is not, and no message is longer than is said. */
 static void contexts_of_any_length(void)
 {
     static const uint8_t context[IDSM_CFG_LARGEST_CONTEXT + 1] = {1};

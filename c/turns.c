@@ -82,8 +82,8 @@ int main(void)
     } while (answer == IDSM_BUSY || answer == IDSM_NOT_SENT);
     for (int i = 0; i < TURNING; i++) {
         pthread_join(turning[i], NULL);
-        for (int number = 0; number < 20; number++)
-            others += number == IDSM_DONE || number == IDSM_BUSY || number == IDSM_CLOSED || number == IDSM_NOT_SENT ? 0 : answers[i][number];
+        for (int k = 0; k < 20; k++)
+            others += k == IDSM_DONE || k == IDSM_BUSY || k == IDSM_CLOSED || k == IDSM_NOT_SENT ? 0 : answers[i][k];
     }
     for (unsigned i = 0; i < 65536; i++) {
         all += accepted[i];
