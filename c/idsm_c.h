@@ -367,7 +367,8 @@ idsm_answer idsm_free(idsm_manager *manager);
 idsm_answer idsm_close(idsm_manager *manager, uint64_t tick, uint8_t *buffer, size_t bytes, idsm_sent *sent,
                        idsm_totals *totals);
 
-/* idsm_last_send and idsm_free in one: the manager is freed when all messages are taken. From a task. */
+/* idsm_last_send and idsm_free in one: the manager is freed when all messages are taken. A `send` that takes each message
+   and does nothing gives them up. From a task. */
 idsm_answer idsm_close_send(idsm_manager *manager, uint64_t tick, uint8_t *buffer, size_t bytes, idsm_send *send,
                             void *to, idsm_sent *sent, idsm_totals *totals);
 
