@@ -63,20 +63,22 @@ static void run(void)
     setcontext(&all);
 }
 
-/* Runs both calls, each from so many steps on. */
+static void prepare(unsigned own, call *made, unsigned steps)
+{
+    calls[own] = made;
+    left[own] = steps;
+    has_ended[own] = 0;
+    getcontext(&contexts[own]);
+    contexts[own].uc_stack.ss_sp = stacks[own];
+    contexts[own].uc_stack.ss_size = sizeof stacks[own];
+    makecontext(&contexts[own], run, 0);
+}
+
+/* Runs both calls, each of which makes so many steps before the other one goes on. */
 static void beside(call *one, unsigned first, call *other, unsigned second)
 {
-    calls[0] = one;
-    calls[1] = other;
-    left[0] = first;
-    left[1] = second;
-    for (int i = 0; i < 2; i++) {
-        has_ended[i] = 0;
-        getcontext(&contexts[i]);
-        contexts[i].uc_stack.ss_sp = stacks[i];
-        contexts[i].uc_stack.ss_size = sizeof stacks[i];
-        makecontext(&contexts[i], run, 0);
-    }
+    prepare(0, one, first);
+    prepare(1, other, second);
     running = 0;
     swapcontext(&all, &contexts[0]);
 }
