@@ -1,9 +1,10 @@
 -- What the exported functions answer, by what a handle has.
-use Rattle.std.specs.Prelude.{◌≡◌, ℕ, ◌==◌, if◌then◌else◌, Option, Some, None}
+use Rattle.std.specs.Prelude.{◌≡◌, ℕ, List, Option, Some, None}
 use Rattle.ids_types.specs.declared.mode.Mode.{Mode}
 use Rattle.ids_types.specs.declared.names.EventIndex.{EventIndex}
 use Rattle.ids_types.specs.declared.names.Stamp.{Stamp}
-use Rattle.idsm_api.specs.{code_of, asked_mode, RoleSets}
+use Rattle.report_api.specs.Answers.{given}
+use Rattle.idsm_api.specs.{code_of, asked_mode, RoleReports, RoleSets}
 use Rattle.idsm_api.specs.declared.answer.Answer.{Answer}
 use Rattle.idsm_api.specs.declared.answer.Answer.TheVariants.{OutOfRange, Unset}
 use Rattle.idsm_api.specs.declared.role.Role.{Role}
@@ -16,15 +17,15 @@ event_of number = record { 0 = number }
 abbrev pub stamp_of : ℕ → Stamp
 stamp_of number = record { 0 = number }
 
--- the timestamp of a report, which has none where the flag is 0
-abbrev pub stamp_given : ℕ → ℕ → Option Stamp
-stamp_given has_stamp stamp = if has_stamp == 0 then None else Some (stamp_of stamp)
-
 -- a call on what a handle has: on nothing it is unset, and else the number is that of the role's answer, and the handle has
 -- what the call left of the role
 abbrev pub Handles : (Role → Answer → Role → Type 0) → Option Role → ℕ → Option Role → Type 0
 Handles call None code new = (code ≡ code_of Unset) × (new ≡ None)
 Handles call (Some old) code new = (answer : Answer) × (role : Role) × (code ≡ code_of answer) × (new ≡ Some role) × call old answer role
+
+-- a report on what a handle has
+abbrev pub HandleReports : ℕ → ℕ → Option Stamp → List ℕ → Option Role → ℕ → Option Role → Type 0
+HandleReports event count stamp context = Handles (RoleReports (given (event_of event) count stamp context))
 
 -- a mode that there is is set by the role, and one that there is not changes nothing
 abbrev pub SetsMode : ℕ → Option Mode → Option Role → ℕ → Option Role → Type 0

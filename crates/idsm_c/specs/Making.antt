@@ -1,5 +1,5 @@
 -- What filling handles answers, and what they have then.
-use Rattle.std.specs.Prelude.{◌≡◌, ◌≢◌, ℕ, Bool, true, false, List, ◌∷◌, length, map, Option, Some, is_some, Result, Ok, Err, ⊤}
+use Rattle.std.specs.Prelude.{◌≡◌, ◌≢◌, ℕ, Bool, true, false, List, ◌∷◌, length, map, Option, Some, is_some, Result, Ok, Err}
 use Rattle.std.specs.List.{All, list_any}
 use Rattle.std.specs.declared.alloc.Global.{Global}
 use Rattle.std.specs.declared.boxed.Box.{Box}
@@ -56,6 +56,11 @@ place_of (Event place) = place
 abbrev pub fault_of : ConfigFault → Fault
 fault_of fault = record { number = fault.number; part = part_of fault.place; place = place_of fault.place }
 
+-- what is told if no configuration was found
+abbrev pub refused : JsonFault → Answer × Fault
+refused (faults.Config fault) = (Configuration, fault_of fault)
+refused faults.NoMemory = (NoMemory, no_fault)
+
 -- no handle is changed
 pub record NothingFilled (old : List (Option Role)) (manager : Option Role) (new : List (Option Role)) (after : Option Role) : Type 0 where
   pub callers_are : new ≡ old
@@ -66,44 +71,29 @@ pub record AreFit (roles : Roles) : Type 0 where
   pub callers : All IsFit (roles_in roles.callers.items)
   pub manager : IsFit roles.manager.value
 
--- this is a new setup of the configuration that was found
-abbrev pub IsMade : Result Parts ConfigFault → Setup → Type 0
-IsMade (Ok config) setup = IsNewSetup config setup
-IsMade (Err fault) setup = ⊥
-
--- these are all callers of the configuration that was found, by their numbers, and their manager, all of them new
-pub record AreNew (journal : Bool) (found : Result Parts ConfigFault) (callers : List Role) (manager : Role) : Type 0 where
+-- these are all callers of a configuration, by their numbers, and their manager, all of them new
+pub record AreNew (journal : Bool) (config : Parts) (callers : List Role) (manager : Role) : Type 0 where
   pub setup : Setup
-  pub is_made : IsMade found setup
+  pub is_made : IsNewSetup config setup
   pub text_is : IsNewText journal setup.manager.manager.log
   pub callers_are : callers ≡ caller_roles setup.callers.items
   pub manager_is : manager ≡ Turns setup.manager
 
--- what the making of roles answers: all of them, the first fault of the configuration, or want of memory
-abbrev pub MakesRoles : Bool → Result Parts ConfigFault → Result Roles JsonFault → Type 0
-MakesRoles journal found (Ok roles) = AreNew journal found (roles_in roles.callers.items) roles.manager.value
-MakesRoles journal found (Err (faults.Config fault)) = found ≡ Err fault
-MakesRoles journal found (Err faults.NoMemory) = ⊤
-
--- the handles are filled with the roles, or are not as many as its callers
-abbrev pub Fills : Roles → List (Option Role) → Option Role → Bool → List (Option Role) → Option Role → Type 0
-Fills roles old manager true new after = (new ≡ map Some (roles_in roles.callers.items)) × (after ≡ Some roles.manager.value)
-Fills roles old manager false new after = (length (roles_in roles.callers.items) ≢ length old) × NothingFilled old manager new after
-
 -- handle i has caller i of the configuration that was found, and the last one the manager
 pub record AllFilled (journal : Bool) (found : Result Parts ConfigFault) (new : List (Option Role)) (after : Option Role) : Type 0 where
+  pub config : Parts
+  pub found_is : found ≡ Ok config
   pub callers : List Role
   pub manager : Role
-  pub are_new : AreNew journal found callers manager
+  pub are_new : AreNew journal config callers manager
   pub callers_in : new ≡ map Some callers
   pub manager_in : after ≡ Some manager
 
 -- the configuration that was found has another number of callers than there are handles
-pub record OtherNumber (journal : Bool) (found : Result Parts ConfigFault) (handles : List (Option Role)) : Type 0 where
-  pub callers : List Role
-  pub manager : Role
-  pub are_new : AreNew journal found callers manager
-  pub number : length callers ≢ length handles
+pub record OtherNumber (found : Result Parts ConfigFault) (handles : List (Option Role)) : Type 0 where
+  pub config : Parts
+  pub found_is : found ≡ Ok config
+  pub number : config.callers ≢ length handles
 
 -- no configuration was found, for this fault
 pub record FirstFault (found : Result Parts ConfigFault) (fault : Fault) : Type 0 where
@@ -114,7 +104,7 @@ pub record FirstFault (found : Result Parts ConfigFault) (fault : Fault) : Type 
 -- each answer of an init over handles that had nothing, with its cause, for what was found of a configuration
 abbrev pub InitFinds : Bool → Result Parts ConfigFault → List (Option Role) → Option Role → Answer → List (Option Role) → Option Role → Fault → Type 0
 InitFinds journal found old manager Done new after fault = AllFilled journal found new after × (fault ≡ no_fault)
-InitFinds journal found old manager OutOfRange new after fault = OtherNumber journal found old × NothingFilled old manager new after × (fault ≡ no_fault)
+InitFinds journal found old manager OutOfRange new after fault = OtherNumber found old × NothingFilled old manager new after × (fault ≡ no_fault)
 InitFinds journal found old manager Configuration new after fault = FirstFault found fault × NothingFilled old manager new after
 InitFinds journal found old manager NoMemory new after fault = NothingFilled old manager new after × (fault ≡ no_fault)
 InitFinds journal found old manager other new after fault = ⊥

@@ -7,8 +7,9 @@ use Rattle.idsm_api.specs.declared.answer.Answer.TheVariants.{Done, Unset}
 use Rattle.idsm_api.specs.declared.number.NumberAnswer.{NumberAnswer}
 use Rattle.idsm_api.specs.declared.reading.Status.{Status}
 use Rattle.idsm_api.specs.declared.role.Role.{Role}
+use Rattle.idsm_c.specs.declared.status.Totals.{Totals}
 use Rattle.idsm_c.specs.Calls.{event_of}
-use Rattle.idsm_c.specs.Modes.{mode_at}
+use Rattle.config_tables.specs.Modes.{mode_at}
 
 -- nothing
 abbrev pub no_status : Status
@@ -23,6 +24,14 @@ StatusIs (Err refusal) code status = (code ≡ code_of refusal) × (status ≡ n
 abbrev pub HandleStatus : Option Role → ℕ → Status → Option Role → Type 0
 HandleStatus None code status new = (code ≡ code_of Unset) × (status ≡ no_status) × (new ≡ None)
 HandleStatus (Some role) code status new = (told : Result Status Answer) × StatusIs told code status × (new ≡ Some role) × RoleStatus role told
+
+-- the totals in a status
+abbrev pub totals_of : Status → Totals
+totals_of status = record { entries = status.entries; lost_events = status.lost_events; lost_contexts = status.lost_contexts; messages = status.messages }
+
+-- the totals of what a handle has are those of its status
+abbrev pub HandleTotals : Option Role → ℕ → Totals → Option Role → Type 0
+HandleTotals old code totals new = (status : Status) × HandleStatus old code status new × (totals ≡ totals_of status)
 
 -- the number of an answer, and that of the mode that it told: 0 if it is a refusal
 abbrev pub ModeIs : Result Mode Answer → ℕ → ℕ → Type 0

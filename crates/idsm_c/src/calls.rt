@@ -1,50 +1,102 @@
 //! Reports and controls.
-ghost use Rattle.std.specs.Prelude.{◌≡◌};
-ghost use Rattle.idsm_api.specs.{asked_mode, asked_state, RoleReports, RoleSets};
-ghost use Rattle.report_api.specs.Answers.{given};
-ghost use Rattle.idsm_c.specs.Calls.{Handles, SetsMode, event_of, stamp_given};
-ghost use Rattle.idsm_c.specs.Modes.{mode_at};
+ghost use Rattle.std.specs.Prelude.{◌≡◌, [], None, Option, Some};
+ghost use Rattle.config_tables.specs.Modes.{mode_at};
+ghost use Rattle.idsm_api.specs.{asked_state, RoleSets};
+ghost use Rattle.idsm_c.specs.Calls.{HandleReports, Handles, SetsMode, stamp_of};
 
 use crate::handle::Handle;
-use ids_types::{EventIndex, Mode, Stamp};
+use config_tables::mode_at;
+use ids_types::{EventIndex, Stamp};
 use idsm_api::Answer;
 use std::alloc::Global;
 
-// The timestamp of a report, where it has one.
-fn stamp_given(has_stamp: u8, stamp: u64) -> Option<Stamp>
-    ensures { result ≡ stamp_given has_stamp stamp }
-{
-    match has_stamp {
-        0 => None,
-        _ => Some(Stamp(stamp)),
-    }
-}
-
-/// Reports a security event, seen `count` times, with its context data, and at a timestamp unless `has_stamp` is 0. No
-/// bytes are no context.
-/// Steps: as `idsm_api::Role::report`. By: `Handles`.
-#[unsafe(no_mangle)]
-pub extern "C" fn idsm_raw_report(
+// A report by what the handle has.
+fn report(
     alloc: Global,
     caller: &mut Handle,
     event: u16,
     count: u16,
-    has_stamp: u8,
-    stamp: u64,
+    stamp: Option<Stamp>,
     context: &[u8],
 ) -> u8
-    ensures { Handles (RoleReports (given (event_of event) count (stamp_given has_stamp stamp) context.now)) caller.old.content result
-        caller.new.content }
+    ensures { HandleReports event count stamp context.now caller.old.content result caller.new.content }
 {
     match caller.take(alloc) {
         None => Answer::Unset.code(),
         Some(mut role) => {
-            let stamp = stamp_given(has_stamp, stamp);
             let answer = role.report(EventIndex(event), count, stamp, context);
             caller.put(role);
             answer.code()
         }
     }
+}
+
+/// Reports a security event, seen once.
+/// Steps: as `idsm_api::Role::report`. By: `HandleReports`.
+#[unsafe(no_mangle)]
+pub extern "C" fn idsm_raw_set_event(alloc: Global, caller: &mut Handle, event: u16) -> u8
+    ensures { HandleReports event 1 None [] caller.old.content result caller.new.content }
+{
+    report(alloc, caller, event, 1, None, &[])
+}
+
+/// Reports a security event, seen `count` times.
+/// Steps: as `idsm_api::Role::report`. By: `HandleReports`.
+#[unsafe(no_mangle)]
+pub extern "C" fn idsm_raw_set_event_count(
+    alloc: Global,
+    caller: &mut Handle,
+    event: u16,
+    count: u16,
+) -> u8
+    ensures { HandleReports event count None [] caller.old.content result caller.new.content }
+{
+    report(alloc, caller, event, count, None, &[])
+}
+
+/// Reports a security event, seen once, with its context data. No bytes are no context.
+/// Steps: as `idsm_api::Role::report`. By: `HandleReports`.
+#[unsafe(no_mangle)]
+pub extern "C" fn idsm_raw_set_event_context(
+    alloc: Global,
+    caller: &mut Handle,
+    event: u16,
+    context: &[u8],
+) -> u8
+    ensures { HandleReports event 1 None context.now caller.old.content result caller.new.content }
+{
+    report(alloc, caller, event, 1, None, context)
+}
+
+/// Reports a security event, seen `count` times, with its context data. No bytes are no context.
+/// Steps: as `idsm_api::Role::report`. By: `HandleReports`.
+#[unsafe(no_mangle)]
+pub extern "C" fn idsm_raw_set_event_count_context(
+    alloc: Global,
+    caller: &mut Handle,
+    event: u16,
+    count: u16,
+    context: &[u8],
+) -> u8
+    ensures { HandleReports event count None context.now caller.old.content result caller.new.content }
+{
+    report(alloc, caller, event, count, None, context)
+}
+
+/// The same at a timestamp.
+/// Steps: as `idsm_api::Role::report`. By: `HandleReports`.
+#[unsafe(no_mangle)]
+pub extern "C" fn idsm_raw_set_event_at(
+    alloc: Global,
+    caller: &mut Handle,
+    event: u16,
+    count: u16,
+    stamp: u64,
+    context: &[u8],
+) -> u8
+    ensures { HandleReports event count (Some (stamp_of stamp)) context.now caller.old.content result caller.new.content }
+{
+    report(alloc, caller, event, count, Some(Stamp(stamp)), context)
 }
 
 /// Tells the block state filter that the state changed.
@@ -60,20 +112,6 @@ pub extern "C" fn idsm_raw_set_state(alloc: Global, caller: &mut Handle, state: 
             caller.put(role);
             answer.code()
         }
-    }
-}
-
-// The mode of a number.
-fn mode_at(number: u8) -> Option<Mode>
-    ensures { result ≡ mode_at number }
-{
-    match number {
-        0 => Some(Mode::Off),
-        1 => Some(Mode::Brief),
-        2 => Some(Mode::Detailed),
-        3 => Some(Mode::BriefBypassing),
-        4 => Some(Mode::DetailedBypassing),
-        _ => None,
     }
 }
 

@@ -21,4 +21,5 @@ mod turning;
 pub use handle::Handle;
 pub use making::Fault;
 pub use reading::Row;
+pub use status::Totals;
 pub use turning::Sent;

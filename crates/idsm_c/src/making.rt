@@ -1,13 +1,18 @@
 //! How handles are filled.
-ghost use Rattle.std.specs.Prelude.{◌≡◌, ◌==◌, Some, length, map, not, IfOk, ◌∷◌};
+ghost use Rattle.std.specs.Prelude.{◌≡◌, ◌==◌, Some, length, map, not, IfOk, Result, ◌∷◌};
 ghost use Rattle.std.specs.List.{All};
-ghost use Rattle.config_json.specs.Configured.{configuration};
+ghost use Rattle.ids_config.specs.Parts.{Parts};
+ghost use Rattle.ids_config.specs.declared.fault.ConfigFault.{ConfigFault};
+ghost use Rattle.config_json.specs.Configured.{Tells, configuration};
+ghost use Rattle.config_tables.specs.Tables.{config_in};
 ghost use Rattle.idsm_api.specs.Handled.{IsFit};
-ghost use Rattle.idsm_c.specs.Making.{AreFit, Fills, Inits, MakesRoles, NothingFilled, caller_roles, contents_of, fault_of, is_taken, no_fault, roles_in};
+ghost use Rattle.idsm_c.specs.Making.{AreFit, AreNew, Inits, NothingFilled, caller_roles, contents_of, fault_of, is_taken, no_fault, refused, roles_in};
 
 use crate::handle::Handle;
 use config_json::JsonFault;
-use ids_config::{ConfigFault, ConfigPlace};
+use config_tables::{ClassRow, EventRow, TopRow};
+use ids_config::{Config, ConfigFault, ConfigPlace};
+use ids_types::NoMemory;
 use idsm_api::{Answer, Caller, Manager, Role, With};
 use std::alloc::{AllocError, Global};
 
@@ -94,12 +99,12 @@ fn boxed_callers(alloc: Global, callers: Vec<Caller>) -> Result<Vec<Box<Role, Gl
     Ok(boxes)
 }
 
-// The roles of the configuration that the bytes are the JSON text of.
-fn roles_of(alloc: Global, config: &[u8], with: With) -> Result<Roles, JsonFault>
-    ensures made { MakesRoles with.journal (configuration config.now) result }
+// The roles of a configuration.
+fn roles_of(alloc: Global, config: &Config, with: With) -> Result<Roles, NoMemory>
+    ensures made { IfOk result (λ roles. AreNew with.journal config.now (roles_in roles.callers.items) roles.manager.value) }
     ensures fit { IfOk result AreFit }
 {
-    let setup = Manager::make_with(alloc, config, with)?;
+    let setup = Manager::make_for(alloc, config, with)?;
     let callers = boxed_callers(alloc, setup.callers)?;
     let manager = boxed(alloc, Role::Turns(setup.manager))?;
     Ok(Roles { callers, manager })
@@ -116,23 +121,58 @@ fn put_all(handles: &mut [Handle], mut roles: Vec<Box<Role, Global>>)
     }
 }
 
-// Fills the handles, if they are as many as the callers, and answers whether they are.
-fn fill(roles: Roles, callers: &mut [Handle], manager: &mut Handle) -> bool
-    requires { AreFit roles }
-    ensures { Fills roles (contents_of callers.old) manager.old.content result (contents_of callers.new) manager.new.content }
+// What is told if no configuration was found.
+fn refused(refusal: JsonFault) -> (Answer, Fault)
+    ensures { result ≡ refused refusal }
 {
-    let as_many = roles.callers.len() == callers.len();
-    if as_many {
-        put_all(callers, roles.callers);
-        manager.put(roles.manager);
+    match refusal {
+        JsonFault::Config(fault) => (Answer::Configuration, fault_of(fault)),
+        JsonFault::NoMemory => (Answer::NoMemory, no_fault()),
     }
-    as_many
+}
+
+// Fills the handles with what is made of the configuration that was found.
+fn init(
+    alloc: Global,
+    found: Result<Config, JsonFault>,
+    journal: u8,
+    callers: &mut [Handle],
+    manager: &mut Handle,
+    fault: &mut Fault,
+) -> u8
+    ensures { (deserved : Result Parts ConfigFault) → Tells deserved found → Inits (not (journal == 0)) deserved
+        (contents_of callers.old) manager.old.content result (contents_of callers.new) manager.new.content fault.new }
+{
+    *fault = no_fault();
+    if is_occupied(alloc, callers, manager) {
+        return Answer::Occupied.code();
+    }
+    let config = match found {
+        Ok(config) => config,
+        Err(refusal) => {
+            let (answer, first) = refused(refusal);
+            *fault = first;
+            return answer.code();
+        }
+    };
+    if config.parts().callers != callers.len() as u64 {
+        return Answer::OutOfRange.code();
+    }
+    let with = With {
+        journal: journal != 0,
+    };
+    let Ok(roles) = roles_of(alloc, &config, with) else {
+        return Answer::NoMemory.code();
+    };
+    put_all(callers, roles.callers);
+    manager.put(roles.manager);
+    Answer::Done.code()
 }
 
 /// Fills a handle for each caller of the configuration that the bytes are the JSON text of, and one for the manager, which
 /// keeps the lines of its turns for a journal unless `journal` is 0. If it answers anything but done, no handle is changed.
-/// Steps: as `idsm_api::Manager::make`, and a box for each handle. Memory: made once. By: `Inits`; no other call
-/// answers want of memory.
+/// Steps: as `config_json::read` and `idsm_api::Manager::make_for`, and a box for each handle. Memory: made once. By:
+/// `Inits`; no other call but `idsm_raw_init_tables` answers want of memory.
 #[unsafe(no_mangle)]
 pub extern "C" fn idsm_raw_init(
     alloc: Global,
@@ -145,25 +185,27 @@ pub extern "C" fn idsm_raw_init(
     ensures { Inits (not (journal == 0)) (configuration config.now) (contents_of callers.old) manager.old.content result
         (contents_of callers.new) manager.new.content fault.new }
 {
-    *fault = no_fault();
-    if is_occupied(alloc, callers, manager) {
-        return Answer::Occupied.code();
-    }
-    let with = With {
-        journal: journal != 0,
-    };
-    match roles_of(alloc, config, with) {
-        Ok(roles) => {
-            if fill(roles, callers, manager) {
-                Answer::Done.code()
-            } else {
-                Answer::OutOfRange.code()
-            }
-        }
-        Err(JsonFault::Config(found)) => {
-            *fault = fault_of(found);
-            Answer::Configuration.code()
-        }
-        Err(JsonFault::NoMemory) => Answer::NoMemory.code(),
-    }
+    let found = config_json::read(alloc, config);
+    init(alloc, found, journal, callers, manager, fault)
+}
+
+/// The same for the configuration that tables have.
+/// Steps: as `config_tables::read` and `idsm_api::Manager::make_for`, and a box for each handle. Memory: made once. By:
+/// `Inits`, as of a text: so tables and a text of one configuration make the same.
+#[unsafe(no_mangle)]
+pub extern "C" fn idsm_raw_init_tables(
+    alloc: Global,
+    top: &TopRow,
+    classes: &[ClassRow],
+    events: &[EventRow],
+    journal: u8,
+    callers: &mut [Handle],
+    manager: &mut Handle,
+    fault: &mut Fault,
+) -> u8
+    ensures { Inits (not (journal == 0)) (config_in top.now classes.now events.now) (contents_of callers.old)
+        manager.old.content result (contents_of callers.new) manager.new.content fault.new }
+{
+    let found = config_tables::read(alloc, top, classes, events);
+    init(alloc, found, journal, callers, manager, fault)
 }

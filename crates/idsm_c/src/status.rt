@@ -1,14 +1,36 @@
 //! What a manager shows while it runs, and the lines of its last turn.
 ghost use Rattle.std.specs.Prelude.{◌≡◌, Some};
 ghost use Rattle.idsm_api.specs.Handled.{RoleCalls};
-ghost use Rattle.idsm_c.specs.Modes.{mode_at};
+ghost use Rattle.config_tables.specs.Modes.{mode_at};
 ghost use Rattle.idsm_c.specs.Reading.{HandleTells};
-ghost use Rattle.idsm_c.specs.Status.{HandleJournal, HandleMode, HandleStatus, no_status};
+ghost use Rattle.idsm_c.specs.Status.{HandleJournal, HandleMode, HandleStatus, HandleTotals, no_status, totals_of};
 
 use crate::handle::Handle;
 use ids_types::{EventIndex, Mode};
 use idsm_api::{Answer, Status};
 use std::alloc::Global;
+
+/// The totals of all turns.
+#[repr(C)]
+#[derive(Clone, Copy)]
+pub struct Totals {
+    pub entries: u64,
+    pub lost_events: u64,
+    pub lost_contexts: u64,
+    pub messages: u64,
+}
+
+// The totals in a status.
+fn totals_of(status: Status) -> Totals
+    ensures { result ≡ totals_of status }
+{
+    Totals {
+        entries: status.entries,
+        lost_events: status.lost_events,
+        lost_contexts: status.lost_contexts,
+        messages: status.messages,
+    }
+}
 
 // Nothing.
 fn no_status() -> Status
@@ -59,6 +81,18 @@ pub extern "C" fn idsm_raw_status(alloc: Global, manager: &mut Handle, status: &
         }
         Err(refusal) => refusal.code(),
     }
+}
+
+/// The totals of all turns of a manager so far: all 0 if it is refused.
+/// By: `HandleTotals`.
+#[unsafe(no_mangle)]
+pub extern "C" fn idsm_raw_totals(alloc: Global, manager: &mut Handle, totals: &mut Totals) -> u8
+    ensures { HandleTotals manager.old.content result totals.new manager.new.content }
+{
+    let mut status = no_status();
+    let code = idsm_raw_status(alloc, manager, &mut status);
+    *totals = totals_of(status);
+    code
 }
 
 /// The number of an event's reporting mode, as the last turn left it.

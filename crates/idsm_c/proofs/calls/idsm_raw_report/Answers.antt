@@ -1,6 +1,0 @@
-use Rattle.idsm_c.proofs.Names.{rules}
-use Rattle.idsm_c.proofs.calls.idsm_raw_report.Goals as goal
-
-pub returns-in-Some : goal.returns-in-Some
-returns-in-Some c =
-    rw (← c.in-Some.ensures.was) (c.report-answer.result, c.report-answer.new.self, c.code-in-Some.ensures, search rules, rw (c.deref_mut.ensures.value, c.stamp_given-stamp.ensures) at c.report-answer.ensures.told)
