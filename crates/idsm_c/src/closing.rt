@@ -21,7 +21,7 @@ pub extern "C" fn idsm_raw_close(alloc: Global, handle: &mut Handle) -> u8
 /// The number of this interface.
 #[unsafe(no_mangle)]
 pub extern "C" fn idsm_raw_abi() -> u32
-    ensures { result ≡ 3 }
+    ensures { result ≡ 4 }
 {
-    3
+    4
 }
