@@ -8,7 +8,7 @@ static const char marks[2] = {0, 0};
 #define IN_CALL ((void *)(uintptr_t)&marks[0])
 #define CLOSED ((void *)(uintptr_t)&marks[1])
 
-/* What stands for no bytes, for no records, for no classes and for no events. */
+/* What is handed on for no bytes, for no classes and for no events. */
 static uint8_t no_byte;
 static const idsm_class no_class;
 static const idsm_event no_event;
