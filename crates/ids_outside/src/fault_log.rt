@@ -1,38 +1,30 @@
 //! What a shelf and a sink count: their faults, and the calls of a test that are to fail.
 
 ghost use Rattle.std.specs.Prelude.{◌≡◌, ◌↔◌, option_map, string_bytes, OnOk, OnErr, IsTrue};
-ghost use Rattle.ids_outside.specs.Faults.{Fault, Faults, no_faults, CountsFault, WantsMemory, Plan, IsToFail, CountsCall};
+ghost use Rattle.ids_outside.specs.Faults.{Faults, no_faults, CountsFault, WantsMemory, Plan, IsToFail, CountsCall};
 ghost use Rattle.ids_outside.specs.Sinks.{Misses, no_misses, MissesOne, RefusesOne};
 
 use crate::faults::FaultKind;
 use std::alloc::AllocError;
 use std::marker::Model;
 
-/// The call that failed last, and the name that it was given.
-#[derive(Debug, Drop)]
-struct LastFault {
-    kind: FaultKind,
-    name: String,
-}
-
-impl Model for LastFault {
-    ghost Value = { Fault };
-
-    ghost view = { λ f. record { kind = f.kind; name = string_bytes f.name } };
-}
-
-/// The faults of a shelf: how many there were, and the last one; and how often memory was refused.
+/// The faults of a shelf: how many there were, and the last one with the name that its call was given; and how often
+/// memory was refused.
 #[derive(Debug, Drop)]
 pub(crate) struct FaultLog {
     pub(crate) count: u64,
-    last: Option<LastFault>,
+    pub(crate) last: Option<(FaultKind, String)>,
     refused: u64,
 }
 
 impl Model for FaultLog {
     ghost Value = { Faults };
 
-    ghost view = { λ log. record { count = log.count; last = log.last; refused = log.refused } };
+    ghost view = { λ log. record {
+      count = log.count;
+      last = option_map (λ p. record { kind = p.0; name = string_bytes p.1 }) log.last;
+      refused = log.refused;
+    } };
 }
 
 impl FaultLog {
@@ -46,21 +38,12 @@ impl FaultLog {
         }
     }
 
-    pub(crate) fn last(&self) -> Option<(FaultKind, &str)>
-        ensures { option_map (λ p. record { kind = p.0; name = p.1.now }) result ≡ self.now.last }
-    {
-        match &self.last {
-            Some(last) => Some((last.kind, last.name.as_str())),
-            None => None,
-        }
-    }
-
     /// Counts a fault. The count stays at its greatest value once there.
     pub(crate) fn note(&mut self, kind: FaultKind, name: String)
         ensures counts { CountsFault self.old self.new kind (string_bytes name) }
     {
         self.count = self.count.saturating_add(1);
-        self.last = Some(LastFault { kind, name });
+        self.last = Some((kind, name));
     }
     /// Counts a refusal of memory, up to the greatest value.
     pub(crate) fn refuse(&mut self)

@@ -11,11 +11,11 @@ use ids_types::NoMemory;
 use std::alloc::{AllocError, Global};
 use std::collections::BTreeMap;
 
+/// Files by name.
+pub(crate) type Kept = BTreeMap<String, Vec<u8>>;
+
 /// Keeps all these files, by name. Of those of one name the last one stays.
-pub(crate) fn keep_all(
-    alloc: Global,
-    files: Vec<(String, Vec<u8>)>,
-) -> Result<BTreeMap<String, Vec<u8>>, AllocError>
+pub(crate) fn keep_all(alloc: Global, files: Vec<(String, Vec<u8>)>) -> Result<Kept, AllocError>
     ensures { IfOk result (λ kept. SameFiles (given_files files.items) (files_in kept)) }
 {
     let mut kept = BTreeMap::new(alloc);
@@ -26,11 +26,7 @@ pub(crate) fn keep_all(
 }
 
 /// Keeps these bytes as the file of this name.
-pub(crate) fn keep(
-    files: &mut BTreeMap<String, Vec<u8>>,
-    name: String,
-    bytes: Vec<u8>,
-) -> Result<(), AllocError>
+pub(crate) fn keep(files: &mut Kept, name: String, bytes: Vec<u8>) -> Result<(), AllocError>
     ensures ok { OnOk result (Changes (files_in files.old) (files_in files.new)
         (string_bytes name) (Some bytes.items)) }
     ensures err { OnErr result (SameFiles (files_in files.old) (files_in files.new)) }
@@ -42,7 +38,7 @@ pub(crate) fn keep(
 /// Adds the piece to the file of this name, under `key`, a copy of the name, where it is not there.
 pub(crate) fn add_piece(
     alloc: Global,
-    files: &mut BTreeMap<String, Vec<u8>>,
+    files: &mut Kept,
     name: &str,
     key: String,
     piece: &[u8],
@@ -60,7 +56,7 @@ pub(crate) fn add_piece(
 #[derive(Debug, Drop)]
 pub struct MemoryShelf {
     alloc: Global,
-    files: BTreeMap<String, Vec<u8>>,
+    files: Kept,
     script: Script,
     faults: FaultLog,
 }
@@ -110,7 +106,10 @@ impl MemoryShelf {
         ensures { option_map (λ p. record { kind = p.0; name = p.1.now }) result
             ≡ (shelf_faults self.now).last }
     {
-        self.faults.last()
+        match &self.faults.last {
+            Some((kind, name)) => Some((*kind, name.as_str())),
+            None => None,
+        }
     }
 }
 

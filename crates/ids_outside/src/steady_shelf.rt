@@ -8,18 +8,17 @@ ghost use Rattle.ids_outside.specs.declared.faults.WriteFault.TheVariants as wri
 
 use crate::fault_log::FaultLog;
 use crate::faults::{ReadFault, WriteFault};
-use crate::memory_shelf::{add_piece, keep, keep_all};
+use crate::memory_shelf::{Kept, add_piece, keep, keep_all};
 use crate::shelf::Shelf;
 use ids_types::NoMemory;
 use std::alloc::Global;
-use std::collections::BTreeMap;
 
 /// A shelf that keeps its files in memory and never fails. To a reader every name is there: one
 /// that has no file is empty.
 #[derive(Debug, Drop)]
 pub struct SteadyShelf {
     alloc: Global,
-    files: BTreeMap<String, Vec<u8>>,
+    files: Kept,
     faults: FaultLog,
 }
 
