@@ -1,10 +1,7 @@
 -- What a closed desk makes of a history.
-use Rattle.law_closing.proofs.Names.{Item, some, asks_back, desk_memo, Act, Got, Outcome, PassMemo, call_of, calls_in, fate_of, decided_on, AreAllBack, class_at, AreDecided, entries_by, IsSettledLog, entries_from, get_elem?, at_map, get_or_past, length-map, ◌≡◌, ℕ, true≢false, Option, None, List, [], length, map, refl, sym, ap, ◌∙◌, arith, inl, inr, Classes, some_there, at_length, there, Parts}
-use mathlib.Core.Option.{some-injective}
+use Rattle.law_closing.proofs.Names.{Item, some, asks_back, desk_memo, Act, Got, Outcome, PassMemo, call_of, calls_in, fate_of, decided_on, AreAllBack, class_at, AreDecided, entries_by, IsSettledLog, entries_from, get_elem?, at_map, get_or_past, length-map, ◌≡◌, ℕ, true≢false, Option, None, List, [], length, map, refl, sym, ap, ◌∙◌, arith, inl, inr, Classes, some_there, at_length, there, Parts, AreSettled, sizes_in, HaveAllCalls, StandInOneOrder, came, calls_by, fates_in, ClosedDesk, GiversHaveNumbers, HaveNumbers, plain_item, some-injective, IsWholeCaller}
 use Rattle.std.proofs.lemmas.Bool.{cases_lt}
 use Rattle.ids_types.specs.{entries_of}
-use Rattle.history_spec.specs.{AreSettled}
-use Rattle.history_spec.specs.Contexts.{sizes_in}
 use Rattle.history_spec.specs.Decided.{fates_of}
 use Rattle.history_spec.specs.Follows.{Follows}
 use Rattle.history_spec.proofs.ContextLemmas.{legal_contexts}
@@ -15,13 +12,11 @@ use Rattle.buffer_classes.specs.{AreGiversOf, givers_of, giver_memo}
 use Rattle.buffer_classes.specs.declared.givers.Givers.{Givers}
 use Rattle.buffer_classes.proofs.AskLemmas.{below_or, nothing_past}
 use Rattle.permit_ring.specs.{ended, new_memo}
-use Rattle.report_queue.specs.{IsWholeCaller}
 use Rattle.report_api.proofs.TiedLemmas.{claimants_back}
-use Rattle.law_closing.specs.{HaveAllCalls, StandInOneOrder, came, calls_by, fates_in, ClosedDesk, GiversHaveNumbers, HaveNumbers, plain_item}
 use Rattle.report_queue.proofs.{at_map_back}
 use Rattle.law_closing.proofs.EntryLemmas.{call_of_ticket, no_items, whole_as}
 use Rattle.law_closing.proofs.PlaceLemmas.{first_front, or_at}
-use Rattle.law_closing.proofs.FateLemmas.{claimed_none, none_settled, whole_settled}
+use Rattle.law_closing.proofs.FateLemmas.{claimed_none, whole_settled}
 
 -- the ring of class i has the number of its giver
 pub rings_have : (config : Parts) (classes : Classes) (givers : Givers) → AreGiversOf classes givers
@@ -105,11 +100,10 @@ module _ (closed : ClosedDesk) where
                 rw memo.1 (whole_settled (its.logs_are caller memo.0 memo.1)
                 (λ j front stands. omega (arith, mine.fronts_from j front stands, mine.number_is, number)))
             | inr past ↦ rw (nothing_past (giver_memo giver).back caller past)
-                (none_settled (claimed_none caller 0 its.taken
-                (λ t x taken is. omega (arith, its.seats_are t x.0 x.1 taken, mine.made_are, past, is))))
+                (let none = claimed_none caller 0 its.taken (λ t x taken is. omega (arith, its.seats_are t x.0 x.1 taken, mine.made_are, past, is)) in grind (arith, none))
           ]),
         )
-    | inr past ↦ ([], λ caller. rw (nothing_past givers i past) (none_settled refl))
+    | inr past ↦ ([], λ caller. rw (nothing_past givers i past) (grind arith))
   ]
 
   -- the classes are settled
@@ -123,35 +117,6 @@ module _ (closed : ClosedDesk) where
     },
   )
 
-  -- the calls of a caller are decided
-  are_decided : AreDecided closed.config.ring (λ caller. length (calls_by closed.passes caller)) closed.turns (map fates_in closed.passes)
-  are_decided caller =
-      let its = knows caller in
-      let as_many : length (entries_of closed.turns) ≡ length items = ap length closed.shows ∙ length-map items plain_item in
-      record {
-        calls_are = rw (its.calls, its.fates) (length-map its.memo.log fate_of ∙ sym (length-map its.memo.log call_of));
-        decided = rw (its.fates, as_many) (decided_on its.whole.decided (λ claimed front.
-            front_was closed.config.ring claimed closed.turns (rw closed.fronts_are at front)));
-        are_entries = rw (its.fates, closed.shows) (whole_as caller its.memo.log items its.whole.names its.whole.accepted).1;
-      }
-
-  -- all steps stand in one order
-  one_order : StandInOneOrder closed.config.ring closed.passes
-  one_order =
-      let o = closed.all_taken.order in
-      let n : ℕ = closed.config.ring in
-      let ring : n ≡ o.positions = some-injective n o.positions
-      (sym (first_front n closed.turns n []) ∙ ap (λ (fronts : List ℕ). get_elem? fronts 0) (sym closed.fronts_are) ∙ o.positions_are) in
-      record {
-        limit = o.limit;
-        moves = o.moves;
-        machine = o.machine;
-        reached = rw ring o.reached;
-        of_passes = λ caller pass at. o.of_seats caller (ended pass) (rw closed.are_back (at_map came closed.passes caller pass at));
-        counted = o.counted;
-        in_order = o.in_order;
-      }
-
   pub all_calls : HaveAllCalls closed.config closed.passes closed.turns
   all_calls = record {
     accepted = entries_are;
@@ -163,8 +128,31 @@ module _ (closed : ClosedDesk) where
         let got = call_of_ticket item.caller its.memo.log items its.whole.accepted t item refl found.1 in
         let pass = its.stands got.0 (Got t item) got.1 in
         rw (← found.2) (pass.0, item, pass.1, rw (its.whole.names got.0 t item got.1).1 pass.2, refl);
-    merged = are_merged closed.config.ring closed.turns _ (map fates_in closed.passes) are_decided;
-    one_order = one_order;
+    -- the calls of a caller are decided
+    merged = are_merged closed.config.ring closed.turns _ (map fates_in closed.passes) (λ caller.
+        let its = knows caller in
+        let as_many : length (entries_of closed.turns) ≡ length items = ap length closed.shows ∙ length-map items plain_item in
+        record {
+          calls_are = rw (its.calls, its.fates) (length-map its.memo.log fate_of ∙ sym (length-map its.memo.log call_of));
+          decided = rw (its.fates, as_many) (decided_on its.whole.decided (λ claimed front.
+              front_was closed.config.ring claimed closed.turns (rw closed.fronts_are at front)));
+          are_entries = rw (its.fates, closed.shows) (whole_as caller its.memo.log items its.whole.names its.whole.accepted).1;
+        });
+    -- all steps stand in one order
+    one_order =
+        let o = closed.all_taken.order in
+        let n : ℕ = closed.config.ring in
+        let ring : n ≡ o.positions = some-injective n o.positions
+        (sym (first_front n closed.turns n []) ∙ ap (λ (fronts : List ℕ). get_elem? fronts 0) (sym closed.fronts_are) ∙ o.positions_are) in
+        record {
+          limit = o.limit;
+          moves = o.moves;
+          machine = o.machine;
+          reached = rw ring o.reached;
+          of_passes = λ caller pass at. o.of_seats caller (ended pass) (rw closed.are_back (at_map came closed.passes caller pass at));
+          counted = o.counted;
+          in_order = o.in_order;
+        };
     sees = λ caller pass at. (closed.all_taken.whole caller (ended pass) (rw closed.are_back (at_map came closed.passes caller pass at))).sees;
     contexts = legal_contexts closed.config closed.turns (calls_by closed.passes) (asks_back givers) settled_classes.0 settled_classes.1;
   }

@@ -1,7 +1,6 @@
 -- The items of a caller as the entries of its calls, and their tickets.
-use Rattle.law_closing.proofs.Names.{Item, some, Act, Outcome, Lost, Got, calls_in, fate_of, NamesItsCalls, got_of, items_of, tickets_from, tickets_of, entries_by, entries_from, get_elem?, ◌≡◌, ◌≢◌, ℕ, zero, suc, ◌+◌, List, [], ◌∷◌, map, refl, cond, eqb, ne_eqb, arith, got_from}
+use Rattle.law_closing.proofs.Names.{Item, some, Act, Outcome, Lost, Got, calls_in, fate_of, NamesItsCalls, got_of, items_of, tickets_from, tickets_of, entries_by, entries_from, get_elem?, ◌≡◌, ◌≢◌, ℕ, zero, suc, ◌+◌, List, [], ◌∷◌, map, refl, cond, eqb, ne_eqb, arith, got_from, plain_item}
 use Rattle.std.proofs.lemmas.Grind.{common_steps}
-use Rattle.law_closing.specs.Closed.{plain_item}
 
 module _ (i : ℕ) where
   -- the entries of a caller are its items, and so are their tickets

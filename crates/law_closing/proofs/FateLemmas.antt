@@ -1,10 +1,9 @@
 -- The logs of rings as plain data.
-use Rattle.law_closing.proofs.Names.{some, decided_on, get_elem?, length-map, ◌≡◌, ◌≢◌, ℕ, suc, ◌≤◌, Some, List, [], ◌∷◌, map, refl, length, ne_eqb, arith}
+use Rattle.law_closing.proofs.Names.{some, decided_on, get_elem?, length-map, ◌≡◌, ◌≢◌, ℕ, suc, ◌≤◌, Some, List, [], ◌∷◌, map, refl, length, ne_eqb, arith, Lost, Got}
+use Rattle.permit_ring.specs.declared.memo.Outcome.{Outcome}
 use Rattle.ids_types.specs.Fates.{AreAllDecided, claims_got}
 use Rattle.history_spec.specs.Settled.{IsSettledLog, claims_by}
 use Rattle.permit_ring.specs.{IsWholeLog, fate_of, got_of, taken_by}
-use Rattle.permit_ring.specs.declared.memo.Outcome.{Outcome}
-use Rattle.permit_ring.specs.declared.memo.Outcome.TheVariants.{Lost, Got}
 use Rattle.buffer_classes.specs.Names.{SeatMemo}
 
 module _ {N : Type 0} where
@@ -34,7 +33,3 @@ whole_settled {number = number} {i = i} {taken = taken} {memo = memo} whole larg
     let decided : AreAllDecided (length taken) (λ claimed. number ≤ claimed) (map fate_of memo.log) =
     decided_on whole.decided (λ g front. large front.0 g front.1) in
     grind (arith, decided, got_as memo.log, whole.got, claimed_as i 0 taken, length-map taken (λ x. x.0))
-
--- and so is that of one who claimed nothing
-pub none_settled : {number i : ℕ} {claimants : List ℕ} → claims_by i 0 claimants ≡ [] → IsSettledLog number claimants i []
-none_settled none = grind (arith, none)

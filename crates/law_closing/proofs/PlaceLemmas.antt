@@ -1,7 +1,5 @@
 -- What stands at a place of a list.
-use Rattle.law_closing.proofs.Names.{some, get_elem?, ◌≡◌, ℕ, zero, suc, ◌+◌, List, [], ◌∷◌, length, refl, sym, slice_index_or}
-use Rattle.std.proofs.Common.{◌++◌, subst}
-use Rattle.history_spec.specs.{and_front, fronts_from}
+use Rattle.law_closing.proofs.Names.{some, get_elem?, ◌≡◌, ℕ, zero, suc, ◌+◌, List, [], ◌∷◌, length, refl, sym, slice_index_or, ◌++◌, subst, and_front, fronts_from}
 use Rattle.ids_types.specs.Turns.{Turn}
 
 -- with anything else past its end

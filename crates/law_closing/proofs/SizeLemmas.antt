@@ -1,10 +1,8 @@
 -- The classes that are too small, where sizes rise.
-use Rattle.law_closing.proofs.Names.{◌≡◌, ℕ, sym, ◌∙◌, Classes, Parts}
+use Rattle.law_closing.proofs.Names.{◌≡◌, ℕ, sym, ◌∙◌, Classes, Parts, HaveSizes, sizes_in, too_small}
 use Rattle.history_spec.proofs.AskOrderLemmas.{small_is}
-use Rattle.history_spec.specs.Contexts.{sizes_in, too_small}
 use Rattle.buffer_classes.specs.Classes.{AreClasses, class_sizes, first_fitting}
 use Rattle.report_api.proofs.{first_in}
-use Rattle.law_closing.specs.Closed.{HaveSizes}
 
 pub first_is_small : (config : Parts) (classes : Classes) (bytes : ℕ) → AreClasses classes → HaveSizes config classes
     → first_fitting bytes (class_sizes classes) ≡ too_small config bytes
