@@ -1,7 +1,5 @@
 -- The numbers of an event's account are the sizes of the stages of the chain.
-use Rattle.chain_spec.proofs.Names.{◌≡◌, ℕ, ◌+◌, ◌≤◌, not, Bool, true, List, [], ◌∷◌, ◌++◌, length, filter, Option, Some, None, is_some, option_to_list, if◌then◌else◌, refl, arith, map, counted, Parts, event_at, aggregated, arrivals, sampled, sampled_at, ◌==◌, bypassing_at, Item, is_of, Moment, added, Account, account_of, number_of, tally, Fate, unsent, at_rate, at_traffic, let_out, endings, Ending, is_qualified, qualified, ◌∙◌}
-use Rattle.std.proofs.lemmas.Bool.Decides.{nat_tests}
-use Rattle.chain_spec.specs.{after_ending, comers, ending_at, is_stored}
+use Rattle.chain_spec.proofs.Names.{◌≡◌, ℕ, ◌+◌, ◌≤◌, not, Bool, true, List, [], ◌∷◌, ◌++◌, length, filter, Option, Some, None, is_some, option_to_list, if◌then◌else◌, refl, arith, map, counted, Parts, event_at, aggregated, arrivals, sampled, sampled_at, ◌==◌, bypassing_at, Item, is_of, Moment, added, Account, account_of, number_of, tally, Fate, unsent, at_rate, at_traffic, let_out, endings, Ending, is_qualified, qualified, ◌∙◌, nat_tests, after_ending, comers, ending_at, is_stored}
 use Rattle.chain_spec.proofs.CourseLemmas.{passed_more, joined_by, joined_more, OnEachWay, moment_holds}
 use Rattle.chain_spec.proofs.EndingsLemmas.{qualified_is}
 use Rattle.chain_spec.proofs.TallyLemmas.{number_told, counts_one}

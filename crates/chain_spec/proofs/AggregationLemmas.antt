@@ -1,8 +1,6 @@
 -- Windows that close: each gives its one item at the first tick of a turn at which it is due.
-use Rattle.chain_spec.proofs.Names.{◌≡◌, ℕ, suc, ◌+◌, ◌<◌, ◌≤◌, ◌==◌, not, true, false, List, [], ◌∷◌, ◌++◌, length, filter, filter_map, flat_map, Option, Some, None, IfSome, is_some, nat_le, option_to_list, option_and_then, option_map, if◌then◌else◌, refl, arith, sum_by, sum_by-cons, append-nil, AllByRecursion, list_any, Bool, Aggregate, first_from, closed_item, Call, Arrival, windows_in, is_due, newest_where, due_item, closing_item, Item, is_of, item_at, Window, EndBy, opened, members, with_item, drop}
-use Rattle.std.proofs.lemmas.Bool.Decides.{nat_tests}
+use Rattle.chain_spec.proofs.Names.{◌≡◌, ℕ, suc, ◌+◌, ◌<◌, ◌≤◌, ◌==◌, not, true, false, List, [], ◌∷◌, ◌++◌, length, filter, filter_map, flat_map, Option, Some, None, IfSome, is_some, nat_le, option_to_list, option_and_then, option_map, if◌then◌else◌, refl, arith, sum_by, sum_by-cons, append-nil, AllByRecursion, list_any, Bool, Aggregate, first_from, closed_item, Call, Arrival, windows_in, is_due, newest_where, due_item, closing_item, Item, is_of, item_at, Window, EndBy, opened, members, with_item, drop, nat_tests, openers}
 use Rattle.std.proofs.lemmas.List.Concat.{length-flat_map}
-use Rattle.chain_spec.specs.Openers.{openers}
 use Rattle.chain_spec.proofs.WindowsLemmas.{newest_decides}
 
 -- a call of the aggregation filter, over bytes of context data

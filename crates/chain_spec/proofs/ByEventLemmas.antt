@@ -1,10 +1,6 @@
 -- The aggregated items of one event over its whole lists: one for each window that closes, at the first turn
 -- at which it is due.
-use Rattle.chain_spec.proofs.Names.{◌&&◌, nat_le, ◌≡◌, ℕ, zero, suc, ◌+◌, ◌<◌, ◌≤◌, false, List, [], ◌∷◌, ◌++◌, length, map, filter, Some, IfSome, option_to_list, refl, sym, ap, subst, ◌∙◌, arith, inl, inr, range_with_len, Turn, Report, Act, Parts, event_at, internal_of, Aggregate, tick_of, arrival_of, every, closed_items, reaching, arrived, closing_ticks, windows_in, account_of, is_some, if◌then◌else◌, gated, aggregated, thresholded, arrivals, sampled_at, sampled, Item, is_of, told_of, Moment, closes, comes, closings, moments, head_moment, act_moment, with_all, EndBy, Entry, heads_of}
-use Rattle.std.specs.Prelude.{nat_lt}
-use Rattle.std.proofs.lemmas.Bool.{cases_eq}
-use Rattle.std.proofs.lemmas.Bool.Decides.{nat_tests}
-use Rattle.chain_spec.specs.{Head}
+use Rattle.chain_spec.proofs.Names.{◌&&◌, nat_le, ◌≡◌, ℕ, zero, suc, ◌+◌, ◌<◌, ◌≤◌, false, List, [], ◌∷◌, ◌++◌, length, map, filter, Some, IfSome, option_to_list, refl, sym, ap, subst, ◌∙◌, arith, inl, inr, range_with_len, Turn, Report, Act, Parts, event_at, internal_of, Aggregate, tick_of, arrival_of, every, closed_items, reaching, arrived, closing_ticks, windows_in, account_of, is_some, if◌then◌else◌, gated, aggregated, thresholded, arrivals, sampled_at, sampled, Item, is_of, told_of, Moment, closes, comes, closings, moments, head_moment, act_moment, with_all, EndBy, Entry, heads_of, nat_lt, cases_eq, nat_tests, Head}
 use Rattle.chain_spec.proofs.AccountLemmas.{waiting_more}
 use Rattle.chain_spec.proofs.AggregationLemmas.{AnArrival, StandsBy, stands_later, stands_closing, stands_arriving, windows_own, given_own}
 use Rattle.chain_spec.proofs.CourseLemmas.{own_arrives, joined_more, moment_holds}

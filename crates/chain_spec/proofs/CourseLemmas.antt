@@ -1,8 +1,5 @@
 -- What the stages make of a moment: the ways that an item can go, and where each ends.
-use Rattle.chain_spec.proofs.Names.{◌≡◌, ℕ, Bool, true, false, List, ◌∷◌, ◌++◌, Option, Some, None, is_some, option_to_list, option_and_then, refl, arith, option_or, Parts, event_at, gated_at, aggregated_at, thresholded_at, gated, aggregated, arrival_at, sampled_at, mode_at, item_in, bypassing_at, Item, is_of, Moment, closes, comes, closes_due, where_true, Fate, at_mode, at_block, at_nth, in_window, at_threshold, qualified_fate, Ending, qualified, inl, inr, if◌then◌else◌, eq-eqb}
-use Rattle.std.proofs.lemmas.Bool.{cases_eq}
-use Rattle.std.proofs.lemmas.Bool.Decides.{nat_tests}
-use Rattle.chain_spec.specs.{ending_at}
+use Rattle.chain_spec.proofs.Names.{◌≡◌, ℕ, Bool, true, false, List, ◌∷◌, ◌++◌, Option, Some, None, is_some, option_to_list, option_and_then, refl, arith, option_or, Parts, event_at, gated_at, aggregated_at, thresholded_at, gated, aggregated, arrival_at, sampled_at, mode_at, item_in, bypassing_at, Item, is_of, Moment, closes, comes, closes_due, where_true, Fate, at_mode, at_block, at_nth, in_window, at_threshold, qualified_fate, Ending, qualified, inl, inr, if◌then◌else◌, eq-eqb, cases_eq, nat_tests, ending_at}
 use Rattle.chain_spec.proofs.AggregationLemmas.{given_own}
 use Rattle.chain_spec.proofs.FilterLemmas.{not_filtered}
 use Rattle.chain_spec.proofs.StageLemmas.{cases_Option, added_behind}

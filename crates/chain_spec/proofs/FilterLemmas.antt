@@ -1,6 +1,5 @@
 -- The filters of one event, said over whole lists.
-use Rattle.chain_spec.proofs.Names.{arith, ◌≡◌, ℕ, List, [], ◌∷◌, map, filter, Some, None, ◌↔◌, ◌⊎◌, refl, Mode, Parts, event_at, every, reaching, thresholded_at, filtered_at, qualified_at, counted, thresholded, is_filtered, is_bypassing, arrivals, sampled, bypassing_at, Item, is_of, Moment, comes, added, true, false}
-use Rattle.std.proofs.lemmas.Bool.Decides.{nat_tests}
+use Rattle.chain_spec.proofs.Names.{arith, ◌≡◌, ℕ, List, [], ◌∷◌, map, filter, Some, None, ◌↔◌, ◌⊎◌, refl, Mode, Parts, event_at, every, reaching, thresholded_at, filtered_at, qualified_at, counted, thresholded, is_filtered, is_bypassing, arrivals, sampled, bypassing_at, Item, is_of, Moment, comes, added, true, false, nat_tests}
 use Rattle.chain_spec.specs.Counting.{among}
 use Rattle.chain_spec.proofs.StageLemmas.{added_behind}
 

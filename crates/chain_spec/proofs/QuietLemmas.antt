@@ -1,8 +1,5 @@
 -- A quiet turn left out: the moments with it and those without it tell the same.
-use Rattle.chain_spec.proofs.Names.{◌≡◌, ℕ, ◌+◌, ◌<◌, ◌≤◌, List, [], ◌∷◌, ◌++◌, map, nat_le, Bool, Option, Some, None, IfSome, option_and_then, list_any, refl, sym, ◌∙◌, ◌↔◌, arith, range_with_len, length, inl, inr, append-nil, Turn, Entry, Act, Report, Parts, event_at, internal_of, Aggregate, tick_of, arrived, closing_ticks, windows_in, newest_where, due_item, closing_item, endings, gated, gated_at, aggregated, qualified, mode_at, arrivals, arrival_at, Moment, closes, comes, closes_due, closings, turn_moments, moments, head_moment, act_moment, heads_of, with_all, with_item, EndBy, IsCausal, handed_on}
-use Rattle.std.proofs.lemmas.Bool.{cases_eq}
-use Rattle.std.proofs.lemmas.Bool.Decides.{nat_tests}
-use Rattle.chain_spec.specs.{Head, state_at, ending_at, call_tick, arrives}
+use Rattle.chain_spec.proofs.Names.{◌≡◌, ℕ, ◌+◌, ◌<◌, ◌≤◌, List, [], ◌∷◌, ◌++◌, map, nat_le, Bool, Option, Some, None, IfSome, option_and_then, list_any, refl, sym, ◌∙◌, ◌↔◌, arith, range_with_len, length, inl, inr, append-nil, Turn, Entry, Act, Report, Parts, event_at, internal_of, Aggregate, tick_of, arrived, closing_ticks, windows_in, newest_where, due_item, closing_item, endings, gated, gated_at, aggregated, qualified, mode_at, arrivals, arrival_at, Moment, closes, comes, closes_due, closings, turn_moments, moments, head_moment, act_moment, heads_of, with_all, with_item, EndBy, IsCausal, handed_on, cases_eq, nat_tests, Head, state_at, ending_at, call_tick, arrives}
 use Rattle.chain_spec.specs.Quiet.{HaveIntervals, IsQuiet, TellTheSame}
 use Rattle.chain_spec.proofs.AggregationLemmas.{ACall, AnArrival, AWindow, came_at, stays}
 use Rattle.chain_spec.proofs.CourseLemmas.{joined_by, passed_by, joined_more, passed_more}

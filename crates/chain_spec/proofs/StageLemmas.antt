@@ -1,7 +1,6 @@
 -- Lists by stages: their composition, and how they grow.
-use Rattle.chain_spec.proofs.Names.{◌≡◌, ◌<◌, List, [], ◌∷◌, ◌++◌, length, map, filter, Bool, Option, Some, None, ◌⊎◌, inl, inr, option_to_list, refl, ap, ◌∙◌, append_assoc, arith, map-append, filter-append, AllPairs-cons, EndsWith, Stage, added, behind, with_all, All, All-cons, reverse}
+use Rattle.chain_spec.proofs.Names.{◌≡◌, ◌<◌, List, [], ◌∷◌, ◌++◌, length, map, filter, Bool, Option, Some, None, ◌⊎◌, inl, inr, option_to_list, refl, ap, ◌∙◌, append_assoc, arith, map-append, filter-append, AllPairs-cons, EndsWith, Stage, added, behind, with_all, All, All-cons, reverse, All-nil}
 use Rattle.std.proofs.lemmas.Grind.{common_steps}
-use Rattle.std.proofs.lemmas.List.Elements.{All-nil}
 use Rattle.chain_spec.specs.Places.{placed, HaveOwnPlaces}
 
 -- there is nothing, or something

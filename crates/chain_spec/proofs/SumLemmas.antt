@@ -1,10 +1,5 @@
 -- The accounts of all events together.
-use Rattle.chain_spec.proofs.Names.{nat_le, ◌≡◌, ℕ, zero, suc, ◌+◌, ◌<◌, ◌==◌, ◌&&◌, not, Bool, true, List, [], ◌∷◌, length, map, filter, if◌then◌else◌, refl, sym, ap, ◌∙◌, arith, inl, inr, sum_by, AllByRecursion, range_with_len, plain_event, Turn, Parts, event_at, sent, held, handed, handed_on, held_count, gated, Item, is_of, Moment, closes, comes, sum_by-cons, is_given, Account, tally, account_of, number_of, Fate, Ending, endings, is_qualified, is_limited, is_message, items_with, qualified, cases_Bool, sum, cases_lt, get_or_past}
-use Rattle.std.proofs.lemmas.Bool.Decides.{nat_tests}
-use Rattle.std.specs.Prelude.{nat_lt}
-use Rattle.chain_spec.specs.Accounts.{nothing, with_ending}
-use Rattle.chain_spec.specs.Endings.{is_stored}
-use Rattle.chain_spec.specs.{AreConfigured, events_in, limited_events_in, items_stored, stored_of, stored}
+use Rattle.chain_spec.proofs.Names.{nat_le, ◌≡◌, ℕ, zero, suc, ◌+◌, ◌<◌, ◌==◌, ◌&&◌, not, Bool, true, List, [], ◌∷◌, length, map, filter, if◌then◌else◌, refl, sym, ap, ◌∙◌, arith, inl, inr, sum_by, AllByRecursion, range_with_len, plain_event, Turn, Parts, event_at, sent, held, handed, handed_on, held_count, gated, Item, is_of, Moment, closes, comes, sum_by-cons, is_given, Account, tally, account_of, number_of, Fate, Ending, endings, is_qualified, is_limited, is_message, items_with, qualified, cases_Bool, sum, cases_lt, get_or_past, nat_lt, nat_tests, AreConfigured, events_in, limited_events_in, items_stored, stored_of, stored, nothing, with_ending, is_stored}
 use Rattle.chain_spec.proofs.AggregationLemmas.{given_own}
 use Rattle.chain_spec.proofs.EndingsLemmas.{qualified_told, sent_told, held_told}
 use Rattle.chain_spec.proofs.GrowthLemmas.{held_counted}

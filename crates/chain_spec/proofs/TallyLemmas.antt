@@ -1,6 +1,5 @@
 -- What an ending counts in an account.
-use Rattle.chain_spec.proofs.Names.{◌≡◌, ℕ, suc, ◌+◌, not, Bool, List, [], ◌∷◌, length, filter, if◌then◌else◌, arith, Parts, Account, with_one, with_fate, tally, Fate, at_mode, Ending, is_limited, is_message}
-use Rattle.chain_spec.specs.Accounts.{nothing, with_ending, with_stored}
+use Rattle.chain_spec.proofs.Names.{◌≡◌, ℕ, suc, ◌+◌, not, Bool, List, [], ◌∷◌, length, filter, if◌then◌else◌, arith, Parts, Account, with_one, with_fate, tally, Fate, at_mode, Ending, is_limited, is_message, nothing, with_ending, with_stored}
 
 -- one more, where it is
 abbrev pub one_more : Bool → ℕ → ℕ

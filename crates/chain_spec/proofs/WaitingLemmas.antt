@@ -1,6 +1,5 @@
 -- What windows that closed had, with what the open one holds, is what joined one.
-use Rattle.chain_spec.proofs.Names.{ℕ, ◌≤◌, List, length, IfSome, ap, ◌∙◌, arith, Parts, event_at, windows_in, closing_ticks, arrived, EndBy, Turn, tick_of, arrival_of, moments, ◌<◌, gated, sampled, inl, inr, length-map}
-use Rattle.chain_spec.specs.{TellsWindows}
+use Rattle.chain_spec.proofs.Names.{ℕ, ◌≤◌, List, length, IfSome, ap, ◌∙◌, arith, Parts, event_at, windows_in, closing_ticks, arrived, EndBy, Turn, tick_of, arrival_of, moments, ◌<◌, gated, sampled, inl, inr, length-map, TellsWindows}
 use Rattle.chain_spec.proofs.AggregationLemmas.{came_at, one_for_each, sizes_split}
 use Rattle.chain_spec.proofs.AccountLemmas.{balanced}
 use Rattle.chain_spec.proofs.ByEventLemmas.{turns_stand, aggregated_of_event, arrived_sampled}

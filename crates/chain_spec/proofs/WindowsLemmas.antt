@@ -1,7 +1,5 @@
 -- Windows: which item opens one, and that each item lies in one.
-use Rattle.chain_spec.proofs.Names.{◌≡◌, ℕ, false, List, [], ◌∷◌, flat_map, refl, arith, list_any, All-from_recursion, AllPairs-cons, Window, EndBy, opened, members, covers, in_newest, windows_of}
-use Rattle.std.proofs.lemmas.Bool.Decides.{nat_tests}
-use Rattle.chain_spec.specs.Openers.{openers, IsBeyond, AreApart}
+use Rattle.chain_spec.proofs.Names.{◌≡◌, ℕ, false, List, [], ◌∷◌, flat_map, refl, arith, list_any, All-from_recursion, AllPairs-cons, Window, EndBy, opened, members, covers, in_newest, windows_of, nat_tests, openers, IsBeyond, AreApart}
 
 module _ {A : Type 0} (tick_of : A → ℕ) (interval : ℕ) where
   -- the items of the windows, one window after another, are all items

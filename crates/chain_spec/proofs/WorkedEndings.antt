@@ -1,7 +1,6 @@
 -- A history with what became of each of its items, worked out by hand from the filters' rules, so that a wrong
 -- definition does not check.
-use Rattle.chain_spec.proofs.Names.{◌≡◌, ℕ, Bool, true, false, List, [], ◌∷◌, map, reverse, Some, None, refl, Turn, State, SetMode, DetailedBypassing, Off, Parts, plain_event, moments, Account, account_of, Fate, at_mode, at_block, at_nth, in_window, at_threshold, unsent, at_rate, at_traffic, let_out, endings, instance_18}
-use Rattle.chain_spec.specs.Accounts.{nothing}
+use Rattle.chain_spec.proofs.Names.{◌≡◌, ℕ, Bool, true, false, List, [], ◌∷◌, map, reverse, Some, None, refl, Turn, State, SetMode, DetailedBypassing, Off, Parts, plain_event, moments, Account, account_of, Fate, at_mode, at_block, at_nth, in_window, at_threshold, unsent, at_rate, at_traffic, let_out, endings, instance_18, nothing}
 use Rattle.chain_spec.proofs.WorkedHistories.{door, seen, turn, two_in_1000, three_at_once}
 
 -- every second of event 0, blocked in state 1; event 1 in windows of 10 ticks, from 3 on in 100 ticks; event 2

@@ -1,8 +1,7 @@
 -- Histories with what the chain gives for them, worked out by hand from the filters' rules, so that a wrong
 -- definition does not check. Bytes stand in hexadecimal, as a file of messages shows them.
-use Rattle.chain_spec.proofs.Names.{◌≡◌, ℕ, ◌+◌, ◌*◌, ◌-◌, Bool, true, false, List, [], ◌∷◌, ◌++◌, map, take, reverse, Some, None, refl, Turn, Report, State, SetMode, Act, Mode, Off, Brief, Detailed, BriefBypassing, DetailedBypassing, Parts, Event, plain_event, messages, ends, handed, IsCausal, instance_18}
+use Rattle.chain_spec.proofs.Names.{◌≡◌, ℕ, ◌+◌, ◌*◌, ◌-◌, Bool, true, false, List, [], ◌∷◌, ◌++◌, map, take, reverse, Some, None, refl, Turn, Report, State, SetMode, Act, Mode, Off, Brief, Detailed, BriefBypassing, DetailedBypassing, Parts, Event, plain_event, messages, ends, handed, IsCausal, instance_18, nat_lt, codes, replicate, if◌then◌else◌}
 use Prim.Native.String.{String}
-use Rattle.std.specs.Prelude.{nat_lt, codes, replicate, if◌then◌else◌}
 use Rattle.ids_types.specs.declared.entry.Carried.TheVariants.{Absent, Kept, Missing}
 use Rattle.chain_spec.specs.Memory.{Row}
 use Rattle.chain_spec.specs.Storing.{memory}
