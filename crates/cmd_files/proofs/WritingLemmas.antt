@@ -1,5 +1,5 @@
 -- A file that is written piece by piece.
-use Rattle.cmd_files.proofs.Names.{Adds, Append, AppendMakes, AreUntouched, CanWrite, Changes, Create, CreateMakes, Cuts, Err, Files, IsErrAnd, IsNoneOf, IsTrue, List, Ok, Output, Result, SameBut, Shelved, Some, StandUpTo, WriteCause, WriteFails, WriteFault, Writes, [], arith, drop, length, length-take, map, names_of, output_of, take, take-take, ℕ, ⊤, ◌++◌, ◌+◌, ◌-◌, ◌∷◌, ◌≡◌, ◌≤◌}
+use Rattle.cmd_files.proofs.Names.{Adds, Append, AppendMakes, AreUntouched, CanWrite, Changes, Cuts, Err, Files, IsErrAnd, IsNoneOf, IsTrue, List, Ok, Output, Result, SameBut, Shelved, Some, StandUpTo, WriteCause, WriteFault, Writes, [], arith, drop, length, length-take, map, names_of, output_of, take, take-take, ℕ, ⊤, ◌++◌, ◌+◌, ◌-◌, ◌∷◌, ◌≡◌, ◌≤◌}
 use Rattle.std.proofs.Math.Seq.{take-add, take-length}
 use Rattle.cmd_files.specs.declared.outputs.NewFile.{NewFile}
 use Rattle.std.proofs.lemmas.List.Elements.{Contains-append_right}
@@ -16,15 +16,6 @@ piece_appended output start end old new ordered tells answer makes cause =
     grind (arith, tells, makes, cause, take-add start (end - start) output.bytes, part)
 
 -- ---- one file
-
--- it was not made
-pub not_made : (output : Output) (old new : Shelved) → new.tells ≡ old.tells → (fault : WriteFault)
-    → (IsTrue old.tells → CreateMakes {T = ⊤} old.files new.files output.name (Err fault))
-    → WriteCause {T = ⊤} Create old.faults new.faults output.name (Err fault) → (answer : Result ⊤ WriteFault) → IsErrAnd answer (λ y. y ≡ fault)
-    → Writes (output ∷ []) answer old new
-not_made output old new tells fault makes cause answer left =
-    let fails : WriteFails old.faults new.faults output.name fault = grind (arith, cause) in
-    grind (arith, fails, tells, makes, left)
 
 -- it was made, and got its pieces
 pub file_written : (output : Output) (old mid new : Shelved) → mid.tells ≡ old.tells

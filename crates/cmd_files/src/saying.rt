@@ -3,11 +3,7 @@
 ghost use Rattle.std.specs.Prelude.{◌≡◌, List, ℕ, Err, IfOk, string_bytes};
 ghost use Rattle.cmd_files.specs.{Puts, Says, Tells, plain_end, plain_refusal, bad_config_text, fault_word, OnDisk, Refused};
 
-use crate::status::{
-    BAD_CONFIG, BAD_COUNTER, BAD_DISK, BAD_JOURNAL, BAD_MESSAGE, BAD_TAG, BAD_UNIT, CANNOT_READ,
-    CANNOT_WRITE, DIFFERS, DISK_FAILED, DONE, EMPTY_KEY, INSTANCE, NO_MEMORY, SIGNED, TOO_LARGE,
-    TOO_LONG, WORN,
-};
+use crate::status::*;
 use crate::stop::{DiskStop, Refusal, Stop};
 use ids_config::{ConfigFault, ConfigPlace};
 use ids_frame::{BadMessage, FrameFault};

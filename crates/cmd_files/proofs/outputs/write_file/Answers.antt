@@ -1,6 +1,9 @@
-use Rattle.cmd_files.proofs.WritingLemmas.{not_made}
+use Rattle.cmd_files.proofs.Names.{WriteFails, arith}
 use Rattle.cmd_files.proofs.outputs.write_file.Goals as goal
 
 pub returns-in_err-create : goal.returns-in_err-create
 returns-in_err-create g c =
-    not_made _ _ _ c.create.ensures.tells _ c.in_err-create.ensures.makes c.in_err-create.ensures.cause _ c.from_residual.ensures.1
+    let old = g.H.Shelf.shows c.args.shelf.now in
+    let new = g.H.Shelf.shows c.create.new.self in
+    let fails : WriteFails old.faults new.faults c.args.file.name.now c.in_err-create.field-0.0 = grind (arith, c.in_err-create.ensures.cause) in
+    grind (arith, fails, c.create.ensures.tells, c.in_err-create.ensures.makes, c.from_residual.ensures.1)
