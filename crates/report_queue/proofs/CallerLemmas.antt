@@ -1,7 +1,5 @@
 -- How a caller stands after each of its calls.
-use Rattle.report_queue.proofs.Names.{at_end, at_set, ended, rested_ordered, length-set, ap, ◌∙◌, None, Some, ◌≡◌, ℕ, ◌+◌, ◌≤◌, List, [], ◌∷◌, ◌++◌, length, Result, Ok, Err, arith, common_steps, nat_tests, ticket_in}
-use Rattle.report_queue.specs.{Ticket, Outcome, Lost, Got, SeatMemo, Item, ClaimTells, NamesItsCalls, Queue, QueueSeat, Taker, IsCallerOf, IsNextCaller, IsTakerOf, GoesOn, Releases, Welcomes, admits_all, caller_memo, taker_memo, ticket_of, resumed, resumes, welcomes}
-use Rattle.permit_ring.specs.{IsKeeperOf, IsSeatOf, filled_of, vacant_of}
+use Rattle.report_queue.proofs.Names.{at_end, at_set, ended, rested_ordered, length-set, ap, ◌∙◌, None, Some, ◌≡◌, ℕ, ◌+◌, ◌≤◌, List, [], ◌∷◌, ◌++◌, length, Result, Ok, Err, arith, common_steps, nat_tests, ticket_in, Ticket, Outcome, Lost, Got, SeatMemo, Item, ClaimTells, NamesItsCalls, Queue, QueueSeat, Taker, IsCallerOf, IsNextCaller, IsTakerOf, GoesOn, Releases, Welcomes, admits_all, caller_memo, taker_memo, ticket_of, resumed, resumes, welcomes, IsKeeperOf, IsSeatOf, filled_of, vacant_of}
 use Rattle.permit_ring.specs.declared.answer.Look.{Look}
 
 module _ {N : Type 0} where

@@ -1,6 +1,5 @@
 -- What was taken once all callers are back, from what the ring's keeper knows.
-use Rattle.report_queue.proofs.Names.{some_there, got_from, taken_in, more_fronts, gave_of, offer_keeps_order, length-map, some, some-injective, some-ne-none, ◌≡◌, ℕ, zero, suc, ◌+◌, List, [], ◌∷◌, map, length, Some, None, refl, sym, ap, ◌∙◌, false≢true, eq-zero-or-pos, inl, inr, arith, at_map, get_elem?, IsSettled, taken_by, StandsIn}
-use Rattle.report_queue.specs.{KeeperMemo, SeatMemo, Item, AreAllBack, OffersAll, IsAllTaken, NamesItsCalls, items_of}
+use Rattle.report_queue.proofs.Names.{some_there, got_from, taken_in, more_fronts, gave_of, offer_keeps_order, length-map, some, some-injective, some-ne-none, ◌≡◌, ℕ, zero, suc, ◌+◌, List, [], ◌∷◌, map, length, Some, None, refl, sym, ap, ◌∙◌, false≢true, eq-zero-or-pos, inl, inr, arith, at_map, get_elem?, IsSettled, taken_by, StandsIn, KeeperMemo, SeatMemo, Item, AreAllBack, OffersAll, IsAllTaken, NamesItsCalls, items_of}
 use Rattle.ids_types.proofs.FatesLemmas.{decided_on}
 
 -- an element of a mapped list is that of the list, mapped

@@ -1,6 +1,5 @@
 -- A queue that has just been made, from its ring.
-use Rattle.report_queue.proofs.Names.{at_length, new_ordered, untouched, get_or_default, length-map, length-replicate, some, ◌≡◌, ℕ, zero, suc, ◌≤◌, List, replicate, Option, Some, None, arith, All, slice_index_or, at_index, get_elem?}
-use Rattle.report_queue.specs.{SeatMemo, Item, Queue, QueueSeat, Taker, admits_all, IsNewQueue, IsUnused, as_callers, caller_number}
+use Rattle.report_queue.proofs.Names.{at_length, new_ordered, untouched, get_or_default, length-map, length-replicate, some, ◌≡◌, ℕ, zero, suc, ◌≤◌, List, replicate, Option, Some, None, arith, All, slice_index_or, at_index, get_elem?, SeatMemo, Item, Queue, QueueSeat, Taker, admits_all, IsNewQueue, IsUnused, as_callers, caller_number}
 use Rattle.permit_ring.specs.declared.seat.Seat.{Seat}
 use Rattle.permit_ring.specs.Making as ring
 use Rattle.report_queue.specs.declared.cargo.Items.{Items}

@@ -1,5 +1,4 @@
-use Rattle.report_queue.proofs.Names.{arith, nat_tests, common_steps}
-use Rattle.report_queue.specs.Parts.{caller_memo, caller_number}
+use Rattle.report_queue.proofs.Names.{arith, nat_tests, common_steps, caller_memo, caller_number}
 use Rattle.report_queue.proofs.CallerLemmas.{claimed, names-claim}
 use Rattle.report_queue.proofs.seat.QueueSeat.claim.Goals as goal
 

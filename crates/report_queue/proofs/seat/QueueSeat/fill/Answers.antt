@@ -1,6 +1,4 @@
-use Rattle.report_queue.proofs.Names.{at_end, arith, sym, ◌∙◌}
-use Rattle.permit_ring.specs.Steps.{ticket_in}
-use Rattle.report_queue.specs.{Got, caller_memo, item_by}
+use Rattle.report_queue.proofs.Names.{at_end, arith, sym, ◌∙◌, Got, caller_memo, item_by, ticket_in}
 use Rattle.report_queue.proofs.seat.QueueSeat.fill.Goals as goal
 
 pub returns-clause-mine : goal.returns-clause-mine

@@ -1,5 +1,4 @@
-use Rattle.report_queue.proofs.Names.{arith, eq-zero-or-pos}
-use Rattle.report_queue.specs.{to_give_back}
+use Rattle.report_queue.proofs.Names.{arith, eq-zero-or-pos, to_give_back}
 use Rattle.report_queue.proofs.taker.Taker.give_back.Goals as goal
 
 pub returns : goal.returns

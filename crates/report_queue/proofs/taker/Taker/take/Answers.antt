@@ -1,6 +1,4 @@
-use Rattle.report_queue.proofs.Names.{waits, rules, arith, AreAllBack}
-use Rattle.report_queue.specs.Parts.{taker_memo}
-use Rattle.report_queue.specs.Closing.{IsAllTaken}
+use Rattle.report_queue.proofs.Names.{waits, rules, arith, AreAllBack, taker_memo, IsAllTaken}
 use Rattle.report_queue.proofs.ClosingLemmas.{all_taken}
 use Rattle.report_queue.proofs.taker.Taker.take.Goals as goal
 
