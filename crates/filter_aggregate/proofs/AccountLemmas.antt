@@ -1,5 +1,5 @@
 -- Parcels, counted, where one slot changes.
-use Rattle.filter_aggregate.proofs.Names.{◌≡◌, ℕ, suc, zero, ◌<◌, Bool, true, List, [], ◌∷◌, ◌++◌, length, Option, Some, None, option_to_list, option_and_then, if◌then◌else◌, append_assoc, arith, slice_set, append-nil, Qualified, Aggregate, Open, Slot, fresh_slot, slot_at, held_in, item_due, slot_closed, after_closing, keeps_last, kept_of, spare_of, slot_with, after_arrival, option_map, is_due}
+use Rattle.filter_aggregate.proofs.Names.{◌≡◌, ℕ, suc, zero, ◌<◌, Bool, true, List, [], ◌∷◌, ◌++◌, length, Option, Some, None, option_to_list, option_and_then, append_assoc, arith, slice_set, append-nil, Qualified, Aggregate, Open, Slot, slot_at, held_in, item_due, slot_closed, after_closing, keeps_last, kept_of, spare_of, slot_with, after_arrival}
 use Rattle.std.specs.List.Sorted.{IsPermutation}
 use Rattle.std.proofs.lemmas.List.Sorted.{IsPermutation-refl, IsPermutation-trans, IsPermutation-append_left, IsPermutation-append_right, IsPermutation-append_comm}
 use Rattle.filter_aggregate.specs.Account.{Accounts, kept_in, all_kept}
@@ -28,12 +28,6 @@ module _ {B : Type 0} where
   abbrev pub given_in : Option (Qualified B) → List B
   given_in item = option_to_list (option_and_then (λ (i : Qualified B). i.context) item)
 
-  closing_of : (due : Bool) (setting : Option Aggregate) (window : Option (Open B))
-      → let slot : Slot B = record { setting = setting; window = window } in
-      Accounts [] (kept_in slot) (given_in (if due then option_map (λ w. w.item) window else None))
-      (kept_in (if due then fresh_slot setting else slot))
-  closing_of due setting window = grind (arith, IsPermutation-refl, append-nil)
-
   keeping_one : (last : Bool) (held came : Option B)
       → Accounts (option_to_list came) (option_to_list held)
       (option_to_list (spare_of last held came)) (option_to_list (kept_of last held came))
@@ -56,7 +50,7 @@ module _ {B : Type 0} where
   account_closing event tick slots now item there is given =
       let slot = slot_at slots event in
       rw (is, given) (account_set [] (given_in (item_due tick slot)) slots event (slot_closed tick slot) there
-      (closing_of (is_due tick slot) slot.setting slot.window))
+      (grind (arith, IsPermutation-refl, append-nil)))
 
   -- an item that arrives brings its parcel, and hands out the one that is not kept
   pub account_arriving : (tick : ℕ) (item : Qualified B) (slots now : List (Slot B)) (back : Option B) → item.event.0 < length slots

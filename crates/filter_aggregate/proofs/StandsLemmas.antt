@@ -1,10 +1,5 @@
 -- Slots that stand for a list of calls stand for it with one call more.
-use Rattle.filter_aggregate.proofs.Names.{◌≡◌, ℕ, ◌<◌, ◌≤◌, false, List, [], ◌∷◌, length, map, Option, None, IsSome, sym, arith, slice_set, get_or-set_same, get_or-set_other, get_or-map, length-set, length-map, Qualified, Aggregate, Parts, event_at, plain_event, Call, closes_due, arrives, call_tick, told_by, EndBy, Slot, fresh_slot, slot_at, HaveIntervals, is_due, slot_closed, after_closing, slot_with, after_arrival, slot_by, slots_by, slot_after, Stands, inl, inr, cases_eq, refl, is_some, Event}
-use Rattle.std.proofs.Common.{ap}
-use Rattle.std.proofs.lemmas.Bool.{cases_lt}
-use Rattle.std.proofs.lemmas.Bool.Decides.{nat_tests}
-use Rattle.std.proofs.lemmas.List.{get_or_past}
-use Rattle.chain_spec.specs.{closing_item}
+use Rattle.filter_aggregate.proofs.Names.{◌≡◌, ℕ, ◌<◌, ◌≤◌, false, List, [], ◌∷◌, length, map, Option, None, IsSome, sym, arith, slice_set, get_or-set_same, get_or-set_other, get_or-map, length-set, length-map, Qualified, Aggregate, Parts, event_at, plain_event, Call, closes_due, arrives, call_tick, told_by, EndBy, Slot, fresh_slot, slot_at, HaveIntervals, is_due, slot_closed, after_closing, slot_with, after_arrival, slot_by, slots_by, slot_after, Stands, inl, inr, cases_eq, refl, is_some, Event, nat_tests, closing_item, ap, cases_lt, get_or_past}
 use Rattle.filter_aggregate.proofs.SlotLemmas.{slot_at_by}
 use Rattle.filter_aggregate.proofs.StepLemmas.{arrival_slot}
 

@@ -1,8 +1,6 @@
 -- The slot of an event after one call more.
-use Rattle.filter_aggregate.proofs.Names.{◌≡◌, ℕ, ◌+◌, ◌<◌, ◌≤◌, not, nat_le, Bool, false, List, [], ◌∷◌, Option, Some, None, IfSome, IsSome, option_map, refl, arith, list_any, eq-eqb, Qualified, Aggregate, Call, Arrival, arrives, call_tick, arrival_by, arrived, closing_ticks, Window, EndBy, opened, extended, windows_of, Open, Slot, has_passed, is_due, with_item, window_with, slot_with, kept_window, slot_after}
-use Rattle.std.proofs.lemmas.Bool.Decides.{nat_tests}
+use Rattle.filter_aggregate.proofs.Names.{◌≡◌, ℕ, ◌+◌, ◌<◌, ◌≤◌, not, nat_le, Bool, false, List, [], ◌∷◌, Option, Some, None, IfSome, IsSome, option_map, refl, arith, list_any, eq-eqb, Qualified, Aggregate, Call, Arrival, arrives, call_tick, arrival_by, arrived, closing_ticks, Window, EndBy, opened, windows_of, Open, Slot, has_passed, is_due, window_with, slot_with, kept_window, slot_after, nat_tests, newest_where}
 use Rattle.std.proofs.lemmas.List.Sums.{sum_by-cons}
-use Rattle.chain_spec.specs.{newest_where}
 use Rattle.chain_spec.proofs.CoverLemmas.{end_of_told, with_newest, windows_with}
 
 -- ---- ticks
@@ -22,19 +20,12 @@ module _ {C : Type 0} (event : ℕ) where
   none_from end tick [] by before = refl
   none_from end tick (call ∷ calls) by before = grind (arith, nat_tests, by, none_from end (call_tick call) calls by.1)
 
-  arrival_told : (call : Call C) → IfSome (arrival_by event call) (λ (x : Arrival C). x.tick ≡ call_tick call)
-  arrival_told call = grind arith
-
 -- ---- a window as it is kept
 
 module _ {C : Type 0} where
   kept_opened : (last : Bool) (x : Arrival C) → x.told.count ≤ 65535
       → kept_window last (opened x) ≡ record { since = x.tick; item = x.told }
   kept_opened last x few = grind arith
-
-  kept_extended : (last : Bool) (x : Arrival C) (w : Window (Arrival C))
-      → kept_window last (extended x w) ≡ with_item last x.told (kept_window last w)
-  kept_extended last x w = grind (arith, sum_by-cons (λ (one : Arrival C). one.told.count) x w.more)
 
 module _ {C : Type 0} (setting : Aggregate) where
   -- the tick at which a window is due
@@ -54,7 +45,7 @@ module _ {C : Type 0} (setting : Aggregate) where
   arriving event x calls (w ∷ older) some few by not_due =
       let opens = none_from event (x.tick + setting.interval) x.tick calls by (omega arith) in
       let stays = none_from event (end_of w) x.tick calls by in
-      grind (arith, nat_tests, opens, stays, kept_opened setting.last x few, kept_extended setting.last x w, not_due)
+      grind (arith, nat_tests, opens, stays, kept_opened setting.last x few, sum_by-cons (λ (one : Arrival C). one.told.count) x w.more, not_due)
 
 -- ---- the slot of an event
 
@@ -68,7 +59,7 @@ module _ {C : Type 0} where
       let event = item.event.0 in
       let x : Arrival C = record { tick = tick; told = item } in
       let xs = arrived event calls in
-      let by_arrivals = end_of_told call_tick tick_of (arrival_by event) (arrival_told event) tick calls by in
+      let by_arrivals = end_of_told call_tick tick_of (arrival_by event) (λ call. grind arith) tick calls by in
       let long = rw is at some in
       let with_x = arriving setting event x calls (windows_of tick_of setting.interval xs) long few by (rw is at not_due) in
       rw (is, eq-eqb event event refl, windows_with tick_of setting.interval x xs by_arrivals, with_x) refl
