@@ -1,10 +1,5 @@
 -- What a close leaves.
-use Rattle.main_function.proofs.Names.{◌≡◌, ℕ, suc, Option, List, [], ◌∷◌, ◌++◌, length, map, DeskMemo, ap, refl, sym, ◌∙◌, sum_by, arith, sum_by-cons, Turn, Parts, Buffer, AllOf, givers_of, AreAllBack, AreAllSwept, IsAllTaken, EachSettled, IsDeskOf, desk_memo, to_give_back, PassMemo, lost_events, missing_in, Desk, Shared, all_calls, all_accepted, settled_classes, Closed, OnlyWelcomes, all_back, came, IsManagerOf, Stands, Turned, Manager, get_elem?, some}
-use Rattle.atomic_table.proofs.Lists.{at_map}
-use Rattle.report_queue.proofs.ClosingLemmas.{at_map_back}
-use Rattle.permit_ring.specs.{ended, marks_back}
-use Rattle.buffer_classes.proofs.{all_then}
-use Rattle.buffer_classes.specs.{ClassMemo}
+use Rattle.main_function.proofs.Names.{◌≡◌, ℕ, suc, Option, List, [], ◌∷◌, ◌++◌, length, map, DeskMemo, ap, refl, sym, ◌∙◌, sum_by, arith, sum_by-cons, Turn, Parts, Buffer, AllOf, givers_of, AreAllBack, AreAllSwept, IsAllTaken, EachSettled, IsDeskOf, desk_memo, to_give_back, PassMemo, lost_events, missing_in, Desk, Shared, all_calls, all_accepted, settled_classes, Closed, OnlyWelcomes, all_back, came, IsManagerOf, Stands, Turned, Manager, get_elem?, some, at_map, at_map_back, ended, marks_back, all_then, ClassMemo}
 use Rattle.law_closing.specs.{ClosedDesk, IsMadeFor}
 use Rattle.main_function.proofs.ReportLemmas.{sums_of}
 use Rattle.main_function.proofs.WelcomeLemmas.{only_back}
@@ -27,19 +22,13 @@ module _ {C L : Type 0} (stands : C → Parts → List Turn → Type 0) (noted :
   pub stands_back : (config : Parts) (turns : List Turn) → Stands stands config old turns → Stands stands config (record old { desk = desk }) turns
   stands_back config turns is = let only = only_back passes (desk_memo old.desk) in grind (arith, is, told, only)
 
-  -- so a turn that it makes then is one of the manager that it was
-  turned_from : (tick : ℕ) (new : Manager C L) → Turned stands noted kept tick (desk_memo desk) (givers_of desk.givers) (record old { desk = desk }) new
-      → Turned stands noted kept tick (all_back passes (desk_memo old.desk)) (givers_of desk.givers) old new
-  turned_from tick new turned = let was = stands_back in grind (arith, turned, told, was)
-
-  -- and it is closed by it
+  -- and a turn that it makes then closes it
   pub closed_by : (tick : ℕ) (new : Manager C L) → (desk_memo desk).back ≡ map came passes
       → AllOf (λ i. OnlyWelcomes (length passes)) (givers_of old.desk.givers) (givers_of desk.givers)
       → Turned stands noted kept tick (desk_memo desk) (givers_of desk.givers) (record old { desk = desk }) new → IsManagerOf events kept shared new
       → (AreAllBack (desk_memo desk) → IsAllTaken (desk_memo new.desk))
       → (AreAllBack (desk_memo desk) → AreAllSwept 0 (desk_memo new.desk) × AreAllSwept 1 (desk_memo new.desk))
       → (AreAllBack (desk_memo desk) → EachSettled new.desk) → Closed stands noted kept shared tick passes old new
-  unfolding turned_from
   closed_by tick new back givers turned mine taken swept settled =
       let all : AreAllBack (desk_memo desk) = λ i its at. rw (← (at_map_back came passes i its (rw (← back) at)).2) refl in
       let its_back = turned.back_is ∙ back in
@@ -66,7 +55,7 @@ module _ {C L : Type 0} (stands : C → Parts → List Turn → Type 0) (noted :
       record {
         givers = givers_of desk.givers;
         welcomed = givers;
-        turned = turned_from tick new turned;
+        turned = let was = stands_back in grind (arith, turned, told, was);
         are_back = its_back;
         released_is = turned.released_is ∙ ap (λ (k : DeskMemo). k.released) (told ∙ (only_back passes (desk_memo old.desk)).0);
         go_on = (taken all).go_on;

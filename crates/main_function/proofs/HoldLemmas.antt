@@ -1,22 +1,11 @@
 -- A desk that holds passes one after another, and releases them.
-use Rattle.main_function.proofs.Names.{◌≡◌, ℕ, suc, ◌+◌, List, [], ◌∷◌, ◌++◌, length, map, slice_set, refl, ap, ◌∙◌, arith, append-nil, append_assoc, at_length, there, length-map, map_push, take, AllOf, IsDeskOf, IsPassOf, welcomes, givers_of, desk_memo, to_give_back, DeskMemo, pass_memo, Pass, Shared, OnlyMoves, OnlyWelcomes, all_back, common_steps, get_elem?, some}
-use Rattle.std.specs.Prelude.{zero, ◌<◌, ◌≤◌, ◌≢◌, Option, Some, None, drop}
-use Rattle.std.proofs.Common.{add-one, inl, inr}
-use Rattle.std.proofs.Math.Seq.{take-suc-set}
+use Rattle.main_function.proofs.Names.{◌≡◌, ℕ, suc, ◌+◌, List, [], ◌∷◌, ◌++◌, length, map, slice_set, refl, ap, ◌∙◌, arith, append-nil, append_assoc, at_length, there, length-map, map_push, take, AllOf, IsDeskOf, IsPassOf, welcomes, givers_of, desk_memo, to_give_back, DeskMemo, pass_memo, Pass, Shared, OnlyMoves, OnlyWelcomes, all_back, common_steps, get_elem?, some, length-set, length_push, at_last, at_longer, at_map, at_set, drop_at, set_here, set_else, Releases, ended, first_back, resumed, resumes, seat_memo, giver_memo, memo_at, add-one, inl, inr, AreHeld, GoesOnFrom, IsHeldAt, IsHeldBy, IsReleasedBy, ReleasedSeats, memos_of, IsNextPass, take-suc-set, Giver, zero, ◌<◌, ◌≤◌, ◌≢◌, Option, Some, None, drop, Desk}
+use Rattle.report_api.proofs.WelcomeLemmas.{came}
 use Rattle.std.proofs.lemmas.Bool.{cases_eq}
-use Rattle.std.proofs.lemmas.List.{length-set, length_push}
-use Rattle.atomic_table.proofs.Lists.{at_last, at_longer, at_map, at_set, drop_at, set_here, set_else}
 use Rattle.buffer_classes.proofs.ByIndexLemmas.{Below, below_more, From, from_more, still}
 use Rattle.buffer_classes.specs.Names.{SeatMemo as ClassMemo}
-use Rattle.buffer_classes.specs.{giver_memo, memo_at}
-use Rattle.buffer_classes.specs.declared.giver.Giver.{Giver}
-use Rattle.permit_ring.specs.{Releases, ended, first_back, resumed, resumes, seat_memo}
 use Rattle.permit_ring.specs.declared.memo.KeeperMemo.{KeeperMemo}
 use Rattle.permit_ring.specs.declared.memo.SeatMemo.{SeatMemo}
-use Rattle.report_api.proofs.WelcomeLemmas.{came}
-use Rattle.report_api.specs.declared.desk.Desk.{Desk}
-use Rattle.report_api.specs.{IsNextPass}
-use Rattle.main_function.specs.{AreHeld, GoesOnFrom, IsHeldAt, IsHeldBy, IsReleasedBy, ReleasedSeats, memos_of}
 use Rattle.main_function.proofs.WelcomeLemmas.{only_more}
 
 -- where none before stands there, it is the first

@@ -1,23 +1,12 @@
 -- A turn is in range for a journal, and so are turns with one more.
-use Rattle.main_function.proofs.Names.{◌≡◌, ◌<◌, ◌≤◌, ◌^◌, ℕ, List, [], ◌∷◌, ◌++◌, AllByRecursion, arith, at_length, length, length-map, map, recursion_from_All, refl, reverse, Act, AdmitsAct, AdmitsItem, AllAdmitted, Buffer, DeskMemo, Entry, Giver, IsManagerOf, Kept, Manager, Parts, Report, ReportTerms, Shared, Stands, Turn, Turned, act_by, desk_memo, entry_by, held, items_of, spec_sizes, term_sizes}
-use Rattle.std.proofs.Common.{true}
-use Rattle.std.proofs.lemmas.Bool.Decides.{nat_tests}
-use Rattle.std.proofs.lemmas.List.{reverse-append}
-use Rattle.std.specs.List.{list_all}
-use Rattle.chain_spec.specs.Chain.{IsCausal}
-use Rattle.filter_chain.specs.History.{newest_tick}
+use Rattle.main_function.proofs.Names.{◌≡◌, ◌<◌, ◌≤◌, ◌^◌, ℕ, List, [], ◌∷◌, ◌++◌, AllByRecursion, arith, at_length, length, length-map, map, recursion_from_All, refl, Act, AdmitsAct, AdmitsItem, AllAdmitted, Buffer, DeskMemo, Entry, Giver, IsManagerOf, Kept, Manager, Parts, Report, ReportTerms, Shared, Stands, Turn, Turned, act_by, entry_by, held, items_of, term_sizes, nat_tests, reverse_aux, newest_tick, true, list_all, IsValid, ClassSpec, last_of, Missing}
 use Rattle.history_spec.specs.{KeepUpFrom}
-use Rattle.ids_config.specs.{IsValid}
-use Rattle.ids_types.specs.declared.class_spec.ClassSpec.{ClassSpec}
 use Rattle.journal.specs.Fitting.{AreInRange, IsTurnInRange}
 use Rattle.main_function.proofs.ReportLemmas.{turn_adds}
 use Rattle.main_function.proofs.StepLemmas.{within}
-use Rattle.main_function.specs.{last_of}
-use Rattle.report_api.specs.{Missing}
 use Rattle.report_api.specs.Making.{IsOfConfig}
 use Rattle.text_spec.proofs.TraceFacts.{all_append, all_split}
 use Rattle.text_spec.specs.{IsHeld, enters, is_claim, is_in_ranges, turn_told}
-use mathlib.Core.List.{reverse_aux}
 
 claims : (numbers : List ℕ) → AllByRecursion (λ claimed. claimed ≤ 2 ^ 45) numbers → list_all is_claim numbers ≡ true
 claims [] all = refl
@@ -25,15 +14,13 @@ claims (n ∷ numbers) all = grind (arith, nat_tests, all.0, claims numbers all.
 
 module _ {config : Parts} {terms : ReportTerms} (valid : IsValid config) (of : IsOfConfig config terms) {most : ℕ}
     (within : AllAdmitted (λ size. size ≤ most) (term_sizes terms)) (short : most ≤ 1024) where
-  few_sizes : length (term_sizes terms) ≤ 4
-  few_sizes = rw (of.sizes, length-map config.classes (λ (spec : ClassSpec). spec.size)) valid.few_classes
-
   -- what is admitted is in range
   act_in_range : (caller call : ℕ) (act : Act) → caller < 32 → call < 2 ^ 40 → AdmitsAct terms act
       → is_in_ranges config (enters (record { caller = caller; call = call; act = act_by held act })) ≡ true
   act_in_range caller call (Report event count stamp (Kept class claim buf)) below before is =
       let size = is.1.size_is in
-      grind (arith, nat_tests, below, before, is, of.sensors event.0, at_length (term_sizes terms) class buf.size size, few_sizes, within class buf.size size, short)
+      let few : length (term_sizes terms) ≤ 4 = rw (of.sizes, length-map config.classes (λ (spec : ClassSpec). spec.size)) valid.few_classes in
+      grind (arith, nat_tests, below, before, is, of.sensors event.0, at_length (term_sizes terms) class buf.size size, few, within class buf.size size, short)
   act_in_range caller call (Report event count stamp (Missing numbers)) below before is =
       grind (arith, nat_tests, below, before, is, of.sensors event.0, claims numbers (recursion_from_All _ numbers is.1.few_claims))
   act_in_range caller call (Report event count stamp context) below before is = grind (arith, nat_tests, below, before, is, of.sensors event.0)
@@ -64,9 +51,6 @@ module _ {C L : Type 0} {stands : C → Parts → List Turn → Type 0} {noted :
         );
         few = rw (turned.makes.entries_are, length-map) (omega (arith, turned.makes.few, was.roomy.few_positions));
       }
-
-  pub one_more_causal : (turns : List Turn) → Stands stands config old turns → IsCausal config (reverse turns) → IsCausal config (reverse (turns ++ turned.turn ∷ []))
-  one_more_causal turns is was = rw (reverse-append turns (turned.turn ∷ [])) (turned.limited_is config turns is, was)
 
   pub one_more_in_range : (turns : List Turn) → Stands stands config old turns → last_of old ≤ tick → AreInRange config turns → IsTurnInRange config turned.turn
       → AreInRange config (turns ++ turned.turn ∷ [])

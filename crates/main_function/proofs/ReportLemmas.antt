@@ -1,9 +1,5 @@
 -- What a turn adds to the desk, and to what it shows of a history.
-use Rattle.main_function.proofs.Names.{◌≡◌, ℕ, ◌+◌, ◌≤◌, List, [], ◌∷◌, ◌++◌, length, map, arith, common_steps, flat_map-append, length-map, map-append, sum_by_push, entry_by, Entry, Turn, Parts, Buffer, DeskMemo, desk_memo, MakesTurn, Shared, IsManagerOf, Stands, Manager, ShowsHistory, held, item_of, items_of, sweeps_for, AreTotals, plain_item, Totals, end_steps, gave_of, only_reaps}
-use Rattle.std.proofs.Common.{eq-zero-or-pos}
-use Rattle.std.proofs.lemmas.Bool.Decides.{nat_tests}
-use mathlib.Core.List.{map-map}
-use Rattle.main_function.specs.{AreSumsOf}
+use Rattle.main_function.proofs.Names.{◌≡◌, ℕ, ◌+◌, ◌≤◌, List, [], ◌∷◌, ◌++◌, length, map, arith, common_steps, flat_map-append, length-map, map-append, sum_by_push, entry_by, Entry, Turn, Parts, Buffer, DeskMemo, desk_memo, MakesTurn, Shared, IsManagerOf, Stands, Manager, ShowsHistory, held, item_of, items_of, sweeps_for, AreTotals, plain_item, Totals, end_steps, gave_of, only_reaps, nat_tests, map-map, eq-zero-or-pos, AreSumsOf}
 use Rattle.history_spec.specs.Fronts.{and_front}
 use Rattle.history_spec.proofs.FrontLemmas.{fronts_more}
 

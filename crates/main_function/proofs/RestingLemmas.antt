@@ -1,13 +1,5 @@
 -- A rest: a turn while the desk holds all passes, which go on then.
-use Rattle.main_function.proofs.Names.{◌≡◌, ℕ, List, [], ◌∷◌, length, map, refl, sym, ap, ◌∙◌, arith, length-map, at_length, there, Turn, Parts, Buffer, AllOf, GaveBack, givers_of, IsDeskOf, desk_memo, PassMemo, pass_memo, Pass, Desk, Shared, came, IsManagerOf, Stands, Manager, get_elem?, some}
-use Rattle.atomic_table.proofs.Lists.{at_map}
-use Rattle.permit_ring.specs.{ended, resumed}
-use Rattle.main_function.specs.{AreAllPasses, AreHeld, HaveGoneOn, OnlyMoves, memos_of}
-
--- a list mapped twice
-pub map_twice : {A B D : Type 0} (f : B → D) (g : A → B) (l : List A) → map f (map g l) ≡ map (λ x. f (g x)) l
-map_twice f g [] = refl
-map_twice f g (x ∷ l) = ap (λ rest. f (g x) ∷ rest) (map_twice f g l)
+use Rattle.main_function.proofs.Names.{◌≡◌, ℕ, List, length, map, sym, ap, ◌∙◌, arith, length-map, at_length, there, Buffer, AllOf, GaveBack, givers_of, desk_memo, PassMemo, pass_memo, Pass, Desk, Shared, came, get_elem?, some, at_map, ended, resumed, AreAllPasses, AreHeld, HaveGoneOn, memos_of}
 
 -- a turn brings no pass back and releases none
 pub held_still : {shared : Shared} {desk after : Desk} {passes : List Pass} {bufs : List Buffer} → AreHeld shared desk passes
@@ -27,16 +19,6 @@ held_still {shared} {desk} {after} held same gave = record {
         held = was.held;
       };
 }
-
-module _ {C L : Type 0} (events : C → ℕ) (kept : C → List Buffer) (shared : Shared) (mid : Manager C L) (desk : Desk) (n : ℕ) (moved : OnlyMoves n mid.desk desk) where
-  -- a manager whose passes go on is the one that it was
-  pub mine_moved : IsManagerOf events kept shared mid → IsDeskOf shared desk → IsManagerOf events kept shared (record mid { desk = desk })
-  mine_moved mine is_desk = grind (arith, mine, is_desk, moved.memo_is, moved.counts)
-
-  -- and stands for the same turns
-  pub stands_moved : (stands : C → Parts → List Turn → Type 0) (config : Parts) (turns : List Turn) → Stands stands config mid turns
-      → Stands stands config (record mid { desk = desk }) turns
-  stands_moved stands config turns is = grind (arith, is, moved.memo_is)
 
 module _ {P : Type 0} (pass_of : P → Pass) (shared : Shared) (desk : Desk) (olds nows : List P) (gone : HaveGoneOn shared desk (map pass_of nows))
     (back : (desk_memo desk).back ≡ map came (memos_of pass_of olds)) where

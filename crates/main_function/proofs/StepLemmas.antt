@@ -1,12 +1,9 @@
 -- What a manager between two calls can do, and what it is after a turn.
-use Rattle.main_function.proofs.Names.{◌≡◌, ℕ, ◌≤◌, List, [], ◌++◌, length, IfSome, subst, sym, arith, All, common_steps, All-weaker, recursion_from_All, Entry, AllAdmitted, HandsBack, IsShort, all_parcels, FitsAct, FitsLargest, FitsTurn, parcel_of, most_sent, Buffer, AreBuffersIn, queue_positions, DeskMemo, sizes_of, term_sizes, Shared, IsHeld, held, IsManagerOf, Took, Manager}
+use Rattle.main_function.proofs.Names.{◌≡◌, ℕ, ◌≤◌, List, [], ◌++◌, IfSome, subst, sym, arith, All, common_steps, All-weaker, recursion_from_All, Entry, AllAdmitted, HandsBack, all_parcels, FitsAct, FitsLargest, parcel_of, Buffer, AreBuffersIn, queue_positions, DeskMemo, sizes_of, term_sizes, Shared, IsHeld, held, IsManagerOf, Took, Manager, nat_tests}
 use Rattle.std.specs.List.Sorted.{IsPermutation}
-use Rattle.std.proofs.lemmas.Bool.Decides.{nat_tests}
 use Rattle.main_function.proofs.FittingLemmas.{held_in, of_items}
 use Rattle.main_function.proofs.LargestLemmas.{largest_admits}
-use Rattle.ids_types.specs.Output.{room_of}
-use Rattle.filter_chain.proofs.ParcelLemmas.{all_parcels_of, parcels_keep}
-use Rattle.filter_chain.proofs.RoomLemmas.{most_grows}
+use Rattle.filter_chain.proofs.ParcelLemmas.{parcels_keep}
 
 module _ {C L : Type 0} {events : C → ℕ} {kept : C → List Buffer} {shared : Shared} {m : Manager C L} (mine : IsManagerOf events kept shared m) where
   pub within : AllAdmitted (λ size. size ≤ m.largest) (term_sizes shared.terms)
@@ -15,40 +12,17 @@ module _ {C L : Type 0} {events : C → ℕ} {kept : C → List Buffer} {shared 
   given : AllAdmitted (λ size. 1 ≤ size) (term_sizes shared.terms)
   given = subst (AllAdmitted (λ size. 1 ≤ size)) mine.desk_is.is_shared.sizes_are mine.sizes_given
 
-  are_held : All (IsHeld (term_sizes shared.terms)) (kept m.chain)
+  pub are_held : All (IsHeld (term_sizes shared.terms)) (kept m.chain)
   are_held = subst (λ sizes. All (IsHeld sizes) (kept m.chain)) mine.desk_is.is_shared.sizes_are mine.kept_are
 
-  -- what the chain keeps is short
-  pub kept_short : All (IsShort held) (kept m.chain)
-  kept_short = All-weaker (IsHeld (term_sizes shared.terms)) (IsShort held)
-      (λ buf is. omega (arith, within buf.class buf.size is.size_is, is.fits, mine.roomy.short)) (kept m.chain) are_held
-
   -- what is held is no larger than the largest class
-  held_fit : (bufs : List Buffer) → All (IsHeld (term_sizes shared.terms)) bufs → All (FitsLargest held m.largest) bufs
+  pub held_fit : (bufs : List Buffer) → All (IsHeld (term_sizes shared.terms)) bufs → All (FitsLargest held m.largest) bufs
   held_fit = All-weaker (IsHeld (term_sizes shared.terms)) (FitsLargest held m.largest)
       (λ buf is. grind (arith, nat_tests, within buf.class buf.size is.size_is, given buf.class buf.size is.size_is, is.fits))
 
-  pub kept_fit : All (FitsLargest held m.largest) (kept m.chain)
-  kept_fit = held_fit (kept m.chain) are_held
-
   module _ {old new : DeskMemo} {taken : List (Entry Buffer)} (took : Took shared.terms (queue_positions shared.queue) old taken new) where
-    pub few_taken : length taken ≤ m.positions
-    few_taken = omega (arith, took.few, mine.positions_are)
-
-    items_are : All (λ (e : Entry Buffer). FitsAct held shared.terms.events e.act) taken × All (λ (e : Entry Buffer). IfSome (parcel_of e.act) (IsHeld (term_sizes shared.terms))) taken
+    pub items_are : All (λ (e : Entry Buffer). FitsAct held shared.terms.events e.act) taken × All (λ (e : Entry Buffer). IfSome (parcel_of e.act) (IsHeld (term_sizes shared.terms))) taken
     items_are = of_items shared.terms m.largest within mine.roomy.short taken took.admitted
-
-    -- the chain can take what was taken
-    pub can_take : FitsTurn held (events m.chain) taken
-    can_take = rw mine.events_are record { few = omega (arith, few_taken, mine.roomy.few_positions); acts = items_are.0 }
-
-    -- and none of it is larger than the largest class
-    pub taken_fit : All (FitsLargest held m.largest) (all_parcels taken)
-    taken_fit = held_fit (all_parcels taken) (all_parcels_of (IsHeld (term_sizes shared.terms)) taken items_are.1)
-
-    -- and so the messages find room
-    pub has_sent_room : most_sent m.largest (length taken) (events m.chain) ≤ room_of m.out
-    has_sent_room = omega (arith, most_grows m.largest (length taken) m.positions (events m.chain) few_taken, mine.roomy.out_room)
 
     module _ {now back_before back : List Buffer} (hands : HandsBack (all_parcels taken) (kept m.chain) now back_before back) where
       -- what comes out of the turn is given back or kept

@@ -1,9 +1,6 @@
 -- For which turns a manager stands after one more.
-use Rattle.main_function.proofs.Names.{◌≡◌, ℕ, ◌+◌, ◌≤◌, ◌^◌, List, [], ◌∷◌, ◌++◌, length, sum, ap, sym, arith, common_steps, sum_by_push, Entry, Turn, Parts, Buffer, DeskMemo, desk_memo, MakesTurn, Stands, Turned, AreSentBy, Sent, held_of, item_of, items_of, plain_item, reverse, Giver, append_cancel_left, ◌-◌, min, ◌∙◌, Manager}
-use Rattle.std.proofs.lemmas.List.{reverse-append}
-use mathlib.Core.List.{map-map}
+use Rattle.main_function.proofs.Names.{◌≡◌, ℕ, ◌+◌, ◌≤◌, ◌^◌, List, [], ◌∷◌, ◌++◌, length, sum, ap, sym, arith, common_steps, sum_by_push, Entry, Turn, Parts, Buffer, DeskMemo, desk_memo, MakesTurn, Stands, Turned, AreSentBy, Sent, held_of, item_of, items_of, plain_item, reverse, Giver, append_cancel_left, ◌-◌, min, ◌∙◌, Manager, reverse-append, map-map, count_of, handed_of, last_tick}
 use Rattle.chain_spec.proofs.GrowthLemmas.{held_counted}
-use Rattle.filter_chain.specs.History.{count_of, handed_of, last_tick}
 use Rattle.main_function.proofs.ReportLemmas.{shows_more, turn_adds}
 
 -- the last of numbers is at most as much as all of them

@@ -1,7 +1,5 @@
 -- All passes come back, the last first.
-use Rattle.main_function.proofs.Names.{◌≡◌, ℕ, suc, ◌+◌, List, [], ◌∷◌, ◌++◌, length, map, slice_set, take, refl, sym, ap, ◌∙◌, arith, append-nil, at_length, there, AllOf, Welcomed, welcomes, DeskMemo, PassMemo, IsPassOf, pass_memo, Pass, Shared, OnlyWelcomes, all_back, came, common_steps, append_assoc, length-take-le, set-append_left, take_all, get_elem?, some}
-use Rattle.std.proofs.Math.Seq.{take-set-lt, take-suc-set}
-use Rattle.buffer_classes.specs.declared.giver.Giver.{Giver}
+use Rattle.main_function.proofs.Names.{◌≡◌, ℕ, suc, ◌+◌, List, [], ◌∷◌, ◌++◌, length, map, slice_set, take, refl, sym, ap, ◌∙◌, arith, append-nil, at_length, there, AllOf, Welcomed, welcomes, DeskMemo, PassMemo, IsPassOf, pass_memo, Pass, Shared, OnlyWelcomes, all_back, came, common_steps, append_assoc, length-take-le, set-append_left, take_all, get_elem?, some, take-set-lt, take-suc-set, Giver}
 
 -- the last of some passes comes back before the others
 pub back_last : (left : List Pass) (pass : Pass) (now : DeskMemo)

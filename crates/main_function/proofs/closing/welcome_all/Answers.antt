@@ -1,5 +1,4 @@
-use Rattle.main_function.proofs.Names.{◌≡◌, ◌+◌, ◌++◌, ◌∷◌, [], arith, subst, refl, ◌∙◌, AllOf, IsPassOf, OnlyWelcomes, givers_of, common_steps, desk_memo, nil_from_length}
-use Rattle.buffer_classes.proofs.{admitted_before, admitted_last}
+use Rattle.main_function.proofs.Names.{◌≡◌, ◌+◌, ◌++◌, ◌∷◌, [], arith, subst, refl, ◌∙◌, AllOf, IsPassOf, OnlyWelcomes, givers_of, common_steps, desk_memo, nil_from_length, admitted_before, admitted_last}
 use Rattle.main_function.proofs.WelcomeLemmas.{back_last, only_more}
 use Rattle.main_function.proofs.closing.welcome_all.Goals as goal
 

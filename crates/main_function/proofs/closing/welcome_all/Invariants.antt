@@ -1,6 +1,4 @@
-use Rattle.std.specs.Prelude.{vec_capacity}
-use Rattle.main_function.proofs.Names.{◌≡◌, ℕ, ◌+◌, map, length, AllAdmitted, AllOf, givers_of, IsDeskOf, IsPassOf, all_back, desk_memo, pass_memo, to_give_back}
-use Rattle.main_function.specs.Closing.{OnlyWelcomes}
+use Rattle.main_function.proofs.Names.{◌≡◌, ℕ, ◌+◌, map, length, AllAdmitted, AllOf, givers_of, IsDeskOf, IsPassOf, all_back, desk_memo, pass_memo, to_give_back, vec_capacity, OnlyWelcomes}
 use Rattle.main_function.proofs.closing.welcome_all.Given as goal
 
 -- once those that are left come back too, all passes did

@@ -1,6 +1,4 @@
-use Rattle.main_function.proofs.Names.{◌≡◌, ◌∙◌, map, length, subst, sym, rules, Parts, class_of, ap, AreSpecs, spec_sizes, IsBuilt, largest_size, arith}
-use Rattle.ids_config.specs.{parts_of, IsValid}
-use Rattle.report_api.specs.Making.{IsNewMaking}
+use Rattle.main_function.proofs.Names.{◌≡◌, ◌∙◌, map, length, subst, sym, rules, Parts, class_of, ap, AreSpecs, spec_sizes, IsBuilt, largest_size, arith, parts_of, IsValid, IsNewMaking}
 use Rattle.report_api.proofs.MakingLemmas.{valid_specs}
 use Rattle.main_function.proofs.LargestLemmas.{largest_least}
 use Rattle.main_function.proofs.MakingLemmas.{new_manager}

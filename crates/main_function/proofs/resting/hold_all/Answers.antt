@@ -1,10 +1,4 @@
-use Rattle.main_function.proofs.Names.{◌≡◌, length, refl, arith, subst, length-map, at_length, AllOf, OnlyWelcomes, IsPassOf, pass_memo, givers_of, get_elem?, some}
-use Rattle.std.specs.Prelude.{◌-◌}
-use Rattle.atomic_table.proofs.Lists.{at_index, at_map}
-use Rattle.buffer_classes.proofs.{none_from}
-use Rattle.report_queue.proofs.{at_map_back}
-use Rattle.std.proofs.lemmas.List.{drop_all}
-use Rattle.main_function.specs.{memos_of}
+use Rattle.main_function.proofs.Names.{◌≡◌, length, refl, arith, subst, length-map, at_length, AllOf, OnlyWelcomes, IsPassOf, pass_memo, givers_of, get_elem?, some, drop_all, at_index, at_map, none_from, memos_of, ◌-◌, at_map_back}
 use Rattle.main_function.proofs.HoldLemmas.{holding_more, stood_there}
 use Rattle.main_function.proofs.resting.hold_all.Goals.{After-index-passes-left as In-Loop}
 use Rattle.main_function.proofs.resting.hold_all.Goals as goal

@@ -1,10 +1,4 @@
-use Rattle.main_function.proofs.Names.{◌≡◌, ◌∙◌, [], length, refl, sym, arith, length-map, at_length, get_elem?, some}
-use mathlib.Core.Option.{some-injective}
-use Rattle.atomic_table.proofs.Lists.{at_index}
-use Rattle.buffer_classes.specs.{giver_memo}
-use Rattle.buffer_classes.proofs.{all_below}
-use Rattle.report_queue.proofs.{at_map_back}
-use Rattle.main_function.proofs.Names.{take_all}
+use Rattle.main_function.proofs.Names.{◌≡◌, ◌∙◌, [], length, refl, sym, arith, length-map, at_length, get_elem?, some, at_index, all_below, giver_memo, some-injective, at_map_back, take_all}
 use Rattle.main_function.proofs.HoldLemmas.{all_moved, all_seats, next_pass, none_went, releasing_more}
 use Rattle.main_function.proofs.resting.release_all.Goals.{After-index-passes-i as In-Loop}
 use Rattle.main_function.proofs.resting.release_all.Goals as goal

@@ -1,5 +1,4 @@
-use Rattle.main_function.proofs.Names.{◌≡◌, ◌+◌, ◌∙◌, ◌++◌, ◌∷◌, [], ap, arith, common_steps, desk_memo, items_of, only_reaps}
-use Rattle.report_queue.specs.Parts.{queue_positions}
+use Rattle.main_function.proofs.Names.{◌≡◌, ◌+◌, ◌∙◌, ◌++◌, ◌∷◌, [], ap, arith, common_steps, desk_memo, items_of, only_reaps, queue_positions}
 use Rattle.main_function.proofs.TakingLemmas.{took_one}
 use Rattle.main_function.proofs.taking.take_ready.Goals as goal
 

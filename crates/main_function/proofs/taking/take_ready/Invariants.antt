@@ -1,5 +1,4 @@
-use Rattle.main_function.proofs.Names.{◌≡◌, ◌≤◌, ◌-◌, ◌^◌, length, vec_capacity, IsDeskOf, desk_memo, to_give_back}
-use Rattle.report_queue.specs.Parts.{queue_positions}
+use Rattle.main_function.proofs.Names.{◌≡◌, ◌≤◌, ◌-◌, ◌^◌, length, vec_capacity, IsDeskOf, desk_memo, to_give_back, queue_positions}
 use Rattle.main_function.proofs.TakingLemmas.{TakesOn}
 use Rattle.main_function.proofs.taking.take_ready.Given as goal
 

@@ -1,10 +1,9 @@
-use Rattle.main_function.proofs.Names.{List, Turn, Parts, Stands, AllOf, GaveBack, givers_of, rules, refl, ap, arith, common_steps, TurnHead, turn_by, AdmitsItem, DeskMemo, desk_memo, MakesTurn, held, item_of, items_of, length-map, ◌∙◌, gave_of, only_reaps}
-use Rattle.ids_types.specs.{entry_by}
-use Rattle.std.proofs.lemmas.List.Elements.{All-append}
-use Rattle.report_queue.proofs.ClosingLemmas.{taken_on}
+use Rattle.main_function.proofs.Names.{List, Turn, Parts, Stands, AllOf, GaveBack, givers_of, rules, refl, ap, arith, common_steps, TurnHead, turn_by, AdmitsItem, DeskMemo, desk_memo, MakesTurn, held, item_of, items_of, length-map, ◌∙◌, gave_of, only_reaps, taken_on, entry_by, All-append, IsHeld, length, term_sizes, IsShort, All-weaker}
+use Rattle.filter_chain.proofs.ParcelLemmas.{all_parcels_of}
+use Rattle.filter_chain.proofs.RoomLemmas.{most_grows}
 use Rattle.main_function.proofs.QuickLemmas.{turn_is_quick}
 use Rattle.main_function.proofs.ReportLemmas.{offered_more, totals_more, turn_adds}
-use Rattle.main_function.proofs.StepLemmas.{can_take, come_back, has_sent_room, kept_fit, kept_short, taken_fit}
+use Rattle.main_function.proofs.StepLemmas.{are_held, come_back, held_fit, items_are, within}
 use Rattle.main_function.proofs.TurnedLemmas.{last_within, sent_more, stands_more}
 use Rattle.main_function.proofs.manager.Manager.step.Goals as goal
 
@@ -12,13 +11,16 @@ pub judge-requires : goal.judge-requires
 judge-requires g c =
     let mine = c.requires.mine in
     let took = c.take_ready.ensures.took in
+    let taken = c.take_ready.new.items.items in
+    let sizes = term_sizes c.args.shared.now.terms in
+    let are = items_are mine took in
     record {
       fits = g.met.C.ParcelChain.roomy c.args.self.now.chain _ _;
-      items = can_take mine took;
-      kept = kept_short mine;
+      items = rw mine.events_are record { few = omega (arith, took.few, mine.positions_are, mine.roomy.few_positions); acts = are.0 };
+      kept = All-weaker (IsHeld sizes) (IsShort held) (λ buf is. omega (arith, within mine buf.class buf.size is.size_is, is.fits, mine.roomy.short)) _ (are_held mine);
       back = search rules;
-      out = g.met.C.ParcelChain.within c.args.self.now.chain c.take_ready.new.items.items c.args.self.now.largest _ (taken_fit mine took) (kept_fit mine)
-          (has_sent_room mine took);
+      out = g.met.C.ParcelChain.within c.args.self.now.chain taken c.args.self.now.largest _ (held_fit mine _ (all_parcels_of (IsHeld sizes) taken are.1)) (held_fit mine _ (are_held mine))
+          (omega (arith, most_grows c.args.self.now.largest (length taken) c.args.self.now.positions (g.C.Chain.events c.args.self.now.chain) (omega (arith, took.few, mine.positions_are)), mine.roomy.out_room));
     }
 
 pub with-self-requires-clause-entries : goal.with-self-requires-clause-entries

@@ -1,9 +1,7 @@
-use Rattle.main_function.proofs.Names.{◌≡◌, ◌∙◌, ◌++◌, DeskMemo, length, length-map, map, came, desk_memo, ap, arith, refl, pass_memo}
-use Rattle.buffer_classes.proofs.{all_then}
-use Rattle.main_function.specs.{memos_of}
+use Rattle.main_function.proofs.Names.{◌≡◌, ◌∙◌, ◌++◌, DeskMemo, length, length-map, map, came, desk_memo, ap, arith, refl, pass_memo, map-map, all_then, memos_of}
 use Rattle.main_function.proofs.ClosingLemmas.{closed_by, mine_back}
 use Rattle.main_function.proofs.QuickLemmas.{close_is_quick, rest_is_quick}
-use Rattle.main_function.proofs.RestingLemmas.{all_again, as_many, back_now, held_still, map_twice, mine_moved, stands_moved}
+use Rattle.main_function.proofs.RestingLemmas.{all_again, as_many, back_now, held_still}
 use Rattle.main_function.proofs.WelcomeLemmas.{back_from, only_back}
 use Rattle.main_function.proofs.manager.Manager.step_at_rest.Goals.{After-step}
 use Rattle.main_function.proofs.manager.Manager.step_at_rest.Goals as goal
@@ -17,13 +15,13 @@ pub release_all-requires-clause-held : goal.release_all-requires-clause-held
 release_all-requires-clause-held g c = held_still c.hold_all.ensures.held c.step.ensures.turned.back_is c.step.ensures.turned.buffers.gave
 
 pub returns-clause-mine : goal.returns-clause-mine
-returns-clause-mine g c = mine_moved g.C.Chain.events g.C.Chain.kept c.args.shared.now c.step.new.self c.release_all.new.desk _ c.release_all.ensures.moved c.step.ensures.mine c.release_all.ensures.mine
+returns-clause-mine g c = grind (arith, c.step.ensures.mine, c.release_all.ensures.mine, c.release_all.ensures.moved.memo_is, c.release_all.ensures.moved.counts)
 
 -- what the desk knows of all passes once it holds them, and after the turn
 held : (g : _) (c : After-step g) → (desk_memo c.hold_all.new.desk).back ≡ map came (memos_of g.P.HasPass.its c.args.passes.now)
 held g c =
     let passes = map g.P.HasPass.its c.args.passes.now in
-    rw (c.hold_all.ensures.told, ← map_twice pass_memo g.P.HasPass.its c.args.passes.now) (back_from 0 passes (desk_memo c.args.self.now.desk)
+    rw (c.hold_all.ensures.told, ← map-map pass_memo g.P.HasPass.its c.args.passes.now) (back_from 0 passes (desk_memo c.args.self.now.desk)
     (λ j pass at. omega (arith, (c.requires.passes.each j pass at).1)) (omega (arith, c.requires.passes.all)))
 
 after_turn : (g : _) (c : After-step g) → (desk_memo c.step.new.self.desk).back ≡ map came (memos_of g.P.HasPass.its c.args.passes.now)
@@ -43,8 +41,7 @@ returns-clause-rested g c =
           c.args.tick c.step.new.self (held g d) (rw (many g d) c.hold_all.ensures.givers) did.turned did.mine did.all_taken did.swept did.settled;
       new_is = refl;
       moved = rw (many g d, ← c.hold_all.ensures.stays.as_many) c.release_all.ensures.moved;
-      stands_then = λ config turns. stands_moved g.C.Chain.events g.C.Chain.kept c.args.shared.now c.step.new.self c.release_all.new.desk _
-          c.release_all.ensures.moved g.C.Chain.stands config turns;
+      stands_then = λ config turns is. grind (arith, is, c.release_all.ensures.moved.memo_is);
       remembers = c.release_all.ensures.remembers ∙ ap (λ released. released ++ memos_of g.P.HasPass.its c.release_all.new.passes)
           (did.turned.released_is ∙ ap (λ (k : DeskMemo). k.released) (c.hold_all.ensures.told ∙ (only_back memos (desk_memo c.args.self.now.desk)).0));
       classes_remember = rw (many g d, ← c.hold_all.ensures.stays.as_many) c.release_all.ensures.classes;

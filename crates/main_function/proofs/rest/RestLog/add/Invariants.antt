@@ -1,5 +1,4 @@
-use Rattle.main_function.proofs.Names.{◌≡◌, ◌+◌, ◌≤◌, ◌++◌, ◌∷◌, [], length, take, vec_capacity}
-use Rattle.std.specs.Prelude.{vec_len}
+use Rattle.main_function.proofs.Names.{◌≡◌, ◌+◌, ◌≤◌, ◌++◌, ◌∷◌, [], length, take, vec_capacity, vec_len}
 use Rattle.main_function.specs.Rests.{calls_by}
 use Rattle.main_function.proofs.rest.RestLog.add.Given as goal
 
