@@ -1,9 +1,5 @@
 -- What an answer of `decode` tells of the bytes, and that a slice holds bytes.
-use Rattle.ids_frame.proofs.Names.{◌≡◌, ℕ, ◌≤◌, get_or, List, length, take, drop, Ok, Err, arith, AreBytes, MessageParts, spelling, BeginsWith}
-use Rattle.std.proofs.Common.{Result, Fits, w8}
-use Rattle.std.proofs.lemmas.Grind.{common_steps}
-use Rattle.std.proofs.lemmas.List.{get_or_default}
-use Rattle.ids_frame.specs.{CauseOf, decoded, FrameFault}
+use Rattle.ids_frame.proofs.Names.{◌≡◌, ℕ, ◌≤◌, get_or, List, length, take, drop, Ok, Err, arith, AreBytes, MessageParts, spelling, BeginsWith, Result, Fits, w8, CauseOf, decoded, FrameFault, common_steps, get_or_default}
 use Rattle.ids_frame.proofs.MessageLemmas.{told}
 
 -- the bytes begin with this message, and so many of them are its spelling

@@ -1,10 +1,9 @@
 -- Reading the timestamp, the context and the signature of a message.
-use Rattle.ids_frame.proofs.Names.{◌≡◌, ℕ, ◌-◌, ◌^◌, ◌<◌, ◌≤◌, List, [], ◌∷◌, ◌++◌, length, Some, refl, arith, w16, w32, w64, to_be_bytes, le-ltb, append-nil, Form, AreBytes, FitsContext, most_bytes, stamp_part, length_in, context_part, signature_part, number_at}
+use Rattle.ids_frame.proofs.Names.{◌≡◌, ℕ, ◌-◌, ◌^◌, ◌<◌, ◌≤◌, List, [], ◌∷◌, ◌++◌, length, Some, refl, arith, w16, w32, w64, to_be_bytes, le-ltb, append-nil, Form, AreBytes, FitsContext, most_bytes, stamp_part, length_in, context_part, signature_part, number_at, common_steps}
 use Rattle.ids_frame.specs.declared.context.Form.TheVariants as forms
 use Rattle.ids_frame.specs.Reading.{stamp_at, length_at, context_at, signature_at}
 use Rattle.ids_frame.proofs.PartLemmas.{IsPart, RunsOut, Tells, tells, told_part, made, part, parts_are_part}
 use Rattle.ids_frame.proofs.NumberLemmas.{bytes_are_part, wide16, wide32, wide64, number_is_part}
-use Rattle.std.proofs.lemmas.Grind.{common_steps}
 
 -- a timestamp is a part
 pub stamp_is_part : IsPart stamp_at (λ s. stamp_part (Some s)) (λ s. s.0 < 2 ^ 64)

@@ -1,13 +1,10 @@
 -- What bytes begin with is what is read of them.
-use Rattle.ids_frame.proofs.Names.{◌≡◌, ℕ, ◌+◌, ◌*◌, ◌/◌, ◌%◌, ◌^◌, ◌≤◌, List, [], ◌∷◌, ◌++◌, length, drop, Option, Ok, Err, refl, sym, ap, subst, ◌∙◌, append_assoc, arith, ok_or, ◌↔◌, result_ok, w16, append-nil, length-append, All-tail, IsByte, AreBytes, MessageParts, FitsMessage, IsKnown, flag, header, stamp_part, context_part, signature_part, spelling, has, message_of, Begun, IsCut, Begins}
-use Rattle.std.proofs.Common.{◌≢◌}
-use Rattle.ids_frame.specs.{CauseOf, FrameFault}
+use Rattle.ids_frame.proofs.Names.{◌≡◌, ℕ, ◌+◌, ◌*◌, ◌/◌, ◌%◌, ◌^◌, ◌≤◌, List, [], ◌∷◌, ◌++◌, length, drop, Option, Ok, Err, refl, sym, ap, subst, ◌∙◌, append_assoc, arith, ok_or, ◌↔◌, result_ok, w16, append-nil, length-append, All-tail, IsByte, AreBytes, MessageParts, FitsMessage, IsKnown, flag, header, stamp_part, context_part, signature_part, spelling, has, message_of, Begun, IsCut, Begins, ◌≢◌, CauseOf, FrameFault, common_steps}
 use Rattle.ids_frame.specs.declared.fault.FrameFault.TheVariants.{Short}
 use Rattle.ids_frame.specs.Reading.{parts_at, message_at}
 use Rattle.ids_frame.proofs.PartLemmas.{one_answer, IsPart, tells, Parts, Values, AllCan, made, part, SpelledAs, Makes, parts_are_part, optional_is_part}
 use Rattle.ids_frame.proofs.NumberLemmas.{wide16, number_is_part, byte_is_part}
 use Rattle.ids_frame.proofs.FieldLemmas.{stamp_is_part, context_is_part, signature_is_part}
-use Rattle.std.proofs.lemmas.Grind.{common_steps}
 
 -- ---- the first byte
 

@@ -1,8 +1,7 @@
 -- Reading bytes and numbers.
-use Rattle.ids_frame.proofs.Names.{◌≡◌, ℕ, suc, ◌-◌, ◌^◌, ◌<◌, List, [], ◌∷◌, ◌++◌, length, get_or, replicate, refl, sym, ◌∙◌, arith, Width, w16, w32, w64, byte_len, from_be_bytes, to_be_bytes, append-nil, take_at, drop_at, take-append-drop, length-append, length-take, length-replicate, get_or_past, All-append, All-head, All-take, All-replicate, All-from_recursion, IsByte, AreBytes, bytes_at, byte_at, number_at}
+use Rattle.ids_frame.proofs.Names.{◌≡◌, ℕ, suc, ◌-◌, ◌^◌, ◌<◌, List, [], ◌∷◌, ◌++◌, length, get_or, replicate, refl, sym, ◌∙◌, arith, Width, w16, w32, w64, byte_len, from_be_bytes, to_be_bytes, append-nil, take_at, drop_at, take-append-drop, length-append, length-take, length-replicate, get_or_past, All-append, All-head, All-take, All-replicate, All-from_recursion, IsByte, AreBytes, bytes_at, byte_at, number_at, common_steps}
 use Rattle.std.proofs.lemmas.Nat.{be_bytes_2, be_bytes_4, be_bytes_8, from_be_bytes-to_be_bytes_2, from_be_bytes-to_be_bytes_4, from_be_bytes-to_be_bytes_8}
 use Rattle.ids_frame.proofs.PartLemmas.{IsPart, RunsOut, Tells, told_part, made, part, parts_are_part}
-use Rattle.std.proofs.lemmas.Grind.{common_steps}
 
 -- ---- bytes
 

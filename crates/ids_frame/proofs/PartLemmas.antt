@@ -1,8 +1,6 @@
 -- What a reader of a part and the part's spelling have to do with each other, for one part and for
 -- several, one after the other.
-use Rattle.ids_frame.proofs.Names.{◌≡◌, ℕ, Bool, true, false, List, [], ◌∷◌, ◌++◌, length, Some, None, refl, subst, append_assoc, Option, IfSome, is_some, append-nil, drop_at, All-drop, IsByte, AreBytes, Read, ◌>>=◌, optional}
-use Rattle.std.proofs.Common.{arith}
-use Rattle.std.proofs.lemmas.Grind.{common_steps}
+use Rattle.ids_frame.proofs.Names.{◌≡◌, ℕ, Bool, true, false, List, [], ◌∷◌, ◌++◌, length, Some, None, refl, subst, append_assoc, Option, IfSome, is_some, append-nil, drop_at, All-drop, IsByte, AreBytes, Read, ◌>>=◌, optional, arith, common_steps}
 
 -- two answers that are the same have one value, and the same bytes after it
 pub one_answer : {A : Type 0} {p q : A × List ℕ} → Some p ≡ Some q → (p.0 ≡ q.0) × (p.1 ≡ q.1)

@@ -1,6 +1,4 @@
-use Rattle.std.proofs.Common.{◌≡◌, ◌++◌, refl, option_copied, arith}
-use Rattle.std.proofs.lemmas.Grind.{common_steps}
-use Rattle.ids_frame.specs.Spelling.{signature_part}
+use Rattle.ids_frame.proofs.Names.{◌≡◌, ◌++◌, refl, option_copied, arith, common_steps, signature_part}
 use Rattle.ids_frame.proofs.writing.put_signature.Goals as goal
 
 -- the length and the bytes, one after the other

@@ -1,6 +1,4 @@
-use Rattle.std.proofs.Common.{◌≡◌, ◌++◌, refl, option_copied, arith}
-use Rattle.std.proofs.lemmas.Grind.{common_steps}
-use Rattle.ids_frame.specs.Spelling.{context_part, signature_part, spelling, stamp_part}
+use Rattle.ids_frame.proofs.Names.{◌≡◌, ◌++◌, refl, option_copied, arith, common_steps, context_part, signature_part, spelling, stamp_part}
 use Rattle.ids_frame.proofs.writing.spell.Goals as goal
 
 -- the four parts, one after the other
