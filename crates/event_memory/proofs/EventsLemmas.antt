@@ -1,9 +1,8 @@
 -- Events in the order in which they were last stored: which are among the first, and the others without one.
-use Rattle.event_memory.proofs.Names.{and_parts, cases_Bool, list_any, ◌≡◌, ◌==◌, ◌&&◌, ℕ, zero, suc, Bool, true, false, not, nat_le, nat_lt, List, [], ◌∷◌, length, take, filter, refl, sym, ap, subst, arith, inl, inr, eqb-true, eq-eqb, Stored, event_of, events_of, has_event, renews, since, remove_key, take-nil}
+use Rattle.event_memory.proofs.Names.{and_parts, cases_Bool, list_any, ◌≡◌, ◌==◌, ◌&&◌, ℕ, zero, suc, Bool, true, false, not, nat_le, nat_lt, List, [], ◌∷◌, length, take, filter, refl, sym, ap, subst, arith, inl, inr, eqb-true, eq-eqb, Stored, event_of, events_of, has_event, renews, since, remove_key, take-nil, common_steps}
 use Rattle.std.proofs.lemmas.Bool.Decides.{nat_tests}
 use Rattle.std.proofs.lemmas.Map.Views.{any-filter_same}
-use Rattle.event_memory.proofs.FirstLemmas.{filter-swap, filter-twice, until, until-kept, without-kept}
-use Rattle.std.proofs.lemmas.Grind.{common_steps}
+use Rattle.event_memory.proofs.FirstLemmas.{filter-swap, filter-twice, until, kept_so}
 
 -- the event is this one, and it is another one
 abbrev pub is : ℕ → ℕ → Bool
@@ -15,9 +14,6 @@ is_not event other = not (event == other)
 -- e is no event that is left out where f is left out
 apart : (e f : ℕ) → (f == e) ≡ false → (x : ℕ) → is e x ≡ true → is_not f x ≡ true
 apart e f differs x here = grind (arith, nat_tests)
-
-flipped : (e f : ℕ) → (f == e) ≡ false → (e == f) ≡ false
-flipped e f differs = grind (arith, nat_tests)
 
 -- ---- events of items
 
@@ -39,10 +35,12 @@ events_once event (item ∷ before) =
           (refl, refl, subst (λ e. others ≡ filter (is_not e) others) here (sym (filter-twice (is_not f) xs)))
       | inr differs ↦
           let among = apart event f differs in
-          rw (differs, flipped event f differs, ← rest.0, ← rest.1) (
-            ap (λ ys. f ∷ ys) (until-kept (is event) (is_not f) among xs),
+          let kept = kept_so (is event) (is_not f) among xs in
+          let other : (event == f) ≡ false = grind (arith, nat_tests) in
+          rw (differs, other, ← rest.0, ← rest.1) (
+            ap (λ ys. f ∷ ys) kept.0,
             any-filter_same (is event) (is_not f) true among xs,
-            cc (without-kept (is event) (is_not f) among xs, rest.2, filter-swap (is_not f) (is_not event) xs),
+            cc (kept.1, rest.2, filter-swap (is_not f) (is_not event) xs),
           )
     ]
 

@@ -1,6 +1,5 @@
 -- The elements of a list before the first one that passes a test, and the list without that one.
-use Rattle.event_memory.proofs.Names.{cases_Bool, find, list_any, position_or_len, remove, ◌≡◌, ◌+◌, ◌==◌, ℕ, zero, suc, Bool, true, List, [], ◌∷◌, filter, map, take, Some, None, if◌then◌else◌, refl, arith, inl, inr, eqb-true, take-map, take-take, remove_key}
-use Rattle.std.proofs.lemmas.Grind.{common_steps}
+use Rattle.event_memory.proofs.Names.{cases_Bool, find, list_any, position_or_len, remove, ◌≡◌, ◌+◌, ◌==◌, ℕ, zero, suc, Bool, true, List, [], ◌∷◌, filter, map, take, Some, None, if◌then◌else◌, refl, arith, inl, inr, eqb-true, take-map, take-take, remove_key, common_steps}
 
 -- the elements before the first one that passes
 abbrev pub until : {A : Type 0} → (A → Bool) → List A → List A
@@ -30,13 +29,9 @@ module _ {B : Type 0} (make : ℕ → B) (n : ℕ) (test : B → Bool) (same : (
 -- ---- over the elements that pass another test, where all that passes the first one does
 
 module _ {A : Type 0} (test keeps : A → Bool) (among : (x : A) → test x ≡ true → keeps x ≡ true) where
-  pub until-kept : (xs : List A) → until test (filter keeps xs) ≡ filter keeps (until test xs)
-  until-kept [] = refl
-  until-kept (x ∷ xs) = grind (arith, among x, until-kept xs)
-
-  pub without-kept : (xs : List A) → remove_key test (filter keeps xs) ≡ filter keeps (remove_key test xs)
-  without-kept [] = refl
-  without-kept (x ∷ xs) = grind (arith, among x, without-kept xs)
+  pub kept_so : (xs : List A) → (until test (filter keeps xs) ≡ filter keeps (until test xs)) × (remove_key test (filter keeps xs) ≡ filter keeps (remove_key test xs))
+  kept_so [] = (refl, refl)
+  kept_so (x ∷ xs) = grind (arith, among x, kept_so xs)
 
 -- ---- two tests one after another
 

@@ -1,8 +1,5 @@
 -- One place of the records, among all slots and among those in use.
-use Rattle.event_memory.proofs.Names.{remove, ◌≡◌, ◌≤◌, ◌<◌, ℕ, zero, suc, List, [], ◌∷◌, ◌++◌, length, take, drop, get_or, slice_set, refl, ap, arith, Stored, get_or-take, take-append-le, Row, take-nil, length-remove}
-use Rattle.event_memory.specs.Held.{added, after_adding, no_row}
-use Rattle.std.proofs.lemmas.Grind.{common_steps}
-use Rattle.std.proofs.lemmas.List.{length-reverse}
+use Rattle.event_memory.proofs.Names.{remove, ◌≡◌, ◌≤◌, ◌<◌, ℕ, zero, suc, List, [], ◌∷◌, ◌++◌, length, take, drop, get_or, slice_set, refl, ap, arith, Stored, get_or-take, take-append-le, Row, take-nil, length-remove, added, after_adding, no_row, common_steps, length-reverse}
 use Rattle.text_spec.proofs.WordsLemmas.{one_more, text_of-map}
 
 -- the first elements where one of them is removed

@@ -1,13 +1,11 @@
 -- The records after an item are the newest ones of the items with it.
-use Rattle.event_memory.proofs.Names.{cases_Bool, find, position_or_len, remove, ◌≡◌, ◌≤◌, ◌==◌, ℕ, zero, suc, true, if◌then◌else◌, List, [], ◌∷◌, length, map, take, filter, Option, refl, ap, arith, rules, drop_of_length-le, take_all, Stored, event_of, events_of, has_event, newest_rows, renews, row_of, row_over, run_of, append-nil, length-map, length-take, take-map, Row, remove_key, length-remove}
+use Rattle.event_memory.proofs.Names.{cases_Bool, find, position_or_len, remove, ◌≡◌, ◌≤◌, ◌==◌, ℕ, zero, suc, true, if◌then◌else◌, List, [], ◌∷◌, length, map, take, filter, Option, refl, ap, arith, rules, drop_of_length-le, take_all, Stored, event_of, events_of, has_event, newest_rows, renews, row_of, row_over, run_of, append-nil, length-map, length-take, take-map, Row, remove_key, length-remove, Held, Stands, added, after_storing, after_storing_at, begun, is_of, no_row, told, common_steps}
 use Rattle.std.specs.Option.{option_map_or}
 use Rattle.std.proofs.lemmas.List.Folds.{find_at}
 use Rattle.std.proofs.lemmas.List.Sums.{sum_by-cons}
 use Rattle.std.proofs.lemmas.Option.{slice_get-get_or, slice_get_past}
-use Rattle.event_memory.specs.Held.{Held, Stands, added, after_storing, after_storing_at, begun, is_of, no_row, told}
 use Rattle.event_memory.proofs.EventsLemmas.{is, is_not, any-of-take, events_once, renews-newest}
 use Rattle.event_memory.proofs.FirstLemmas.{find-made, removed, take-made}
-use Rattle.std.proofs.lemmas.Grind.{common_steps}
 
 -- the records with an item: its event's first, and then the others
 abbrev renewed : ℕ → Stored → List Row → List Row
@@ -74,10 +72,9 @@ rows-step (suc k) item items small =
     let made = take-made row e (is_of e) (λ event. ap (λ x. x == e) (row-event (suc k) event items)) k events in
     cc (row-made (suc k) item items small, made, (events_once e items).2, rows-others (suc k) item items events, take-map (row_of (suc k) (item ∷ items)) k (filter (is_not e) events))
 
-same_room : (item : Stored) (memory : Held) (place : Option ℕ) → (after_storing_at item memory place).room ≡ memory.room
-same_room item memory place = grind arith
-
 -- a memory that stands for items stands for one item more
 pub stands_after : (item : Stored) (memory : Held) (items : List Stored) → item.count ≤ 65535 → Stands memory items
     → Stands (after_storing item memory) (item ∷ items)
-stands_after item memory items small stands = grind (arith, common_steps, length-map, length-take, same_room, after_storing_rows, rows-step)
+stands_after item memory items small stands =
+    let same_room : (place : Option ℕ) → (after_storing_at item memory place).room ≡ memory.room = λ place. grind arith in
+    grind (arith, common_steps, length-map, length-take, same_room, after_storing_rows, rows-step)
