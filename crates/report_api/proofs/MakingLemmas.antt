@@ -1,14 +1,11 @@
 -- What reports and takes, just made.
-use Rattle.report_api.proofs.Names.{◌≡◌, ℕ, suc, ◌<◌, is_some, true, List, [], ◌∷◌, get_or, length, map, sym, ◌∙◌, arith, All, slice_index_or, get_or_default, length-map, length-replicate, Parts, class_of, at_index, at_map, at_length, there, RiseFrom, givers_of, AreNewClasses, AreSpecs, IsSpec, spec_sizes, IsNewQueue, AreTied, desk_memo, BoxedAct, Caller, IsNewMaking, IsNewPass, IsOfConfig, as_passes, IsPassOf, IsShared, PassMemo, sizes_of, Pass, Shared, get_elem?, some, none_there}
+use Rattle.report_api.proofs.Names.{◌≡◌, ℕ, suc, ◌<◌, is_some, true, List, [], ◌∷◌, get_or, length, map, sym, ◌∙◌, arith, All, slice_index_or, get_or_default, length-map, length-replicate, Parts, class_of, at_index, at_map, at_length, there, RiseFrom, givers_of, AreNewClasses, AreSpecs, IsSpec, spec_sizes, IsNewQueue, AreTied, desk_memo, BoxedAct, Caller, IsNewMaking, IsNewPass, IsOfConfig, as_passes, IsPassOf, IsShared, PassMemo, sizes_of, Pass, Shared, get_elem?, some, none_there, giver_memo, Desk, Giver}
 use Rattle.std.proofs.lemmas.Slice.Zip.{length-zip}
 use Rattle.ids_types.specs.declared.class_spec.ClassSpec.{ClassSpec}
-use Rattle.buffer_classes.specs.declared.giver.Giver.{Giver}
-use Rattle.buffer_classes.specs.{giver_memo}
 use Rattle.ids_config.specs.Valid as valid
 use Rattle.permit_ring.specs.Hands.{AllAdmitted}
 use Rattle.buffer_classes.specs.declared.seat.ClaimSeat.{ClaimSeat}
 use Rattle.buffer_classes.proofs.MakingLemmas.{as_many}
-use Rattle.report_api.specs.declared.desk.Desk.{Desk}
 
 -- valid classes may be made
 valid_from : (above : ℕ) (specs : List ClassSpec) → valid.AreClasses above specs → RiseFrom above (spec_sizes specs) × AllAdmitted IsSpec specs

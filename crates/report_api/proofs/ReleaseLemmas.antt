@@ -1,13 +1,6 @@
 -- A pass that was held goes on with its claimant.
-use Rattle.report_api.proofs.Names.{◌≡◌, ℕ, ◌≢◌, ◌∙◌, None, Some, slice_set, ap, refl, inl, inr, arith, length-set, length-map, at_set, set_else, at_length, there, seat_memo, Giver, AllOf, giver_memo, givers_of, log_of, below_or, nothing_past, AreTied, log_at, desk_memo, PassMemo, IsPassOf, pass_memo, sizes_of, Pass, Shared, get_elem?, some}
+use Rattle.report_api.proofs.Names.{◌≡◌, ℕ, ◌≢◌, ◌∙◌, None, Some, slice_set, ap, refl, inl, inr, arith, length-set, length-map, at_set, set_else, at_length, there, seat_memo, Giver, AllOf, giver_memo, givers_of, log_of, below_or, nothing_past, AreTied, log_at, desk_memo, PassMemo, IsPassOf, pass_memo, sizes_of, Pass, Shared, get_elem?, some, Class, Follows, Freed, IsClaimSeatOf, resumed, resumes, GoesOn, IsDeskOf, IsNextPass, asks_of, calls_in, Desk}
 use Rattle.buffer_classes.specs.Names as classes
-use Rattle.buffer_classes.specs.declared.class.Class.{Class}
-use Rattle.history_spec.specs.Follows.{Follows}
-use Rattle.buffer_classes.specs.{Freed, IsClaimSeatOf}
-use Rattle.permit_ring.specs.{resumed, resumes}
-use Rattle.report_queue.specs.{GoesOn}
-use Rattle.report_api.specs.{IsDeskOf, IsNextPass, asks_of, calls_in}
-use Rattle.report_api.specs.declared.desk.Desk.{Desk}
 
 module _ (shared : Shared) (desk after : Desk) (pass now : Pass) (mine : IsDeskOf shared desk) (next : IsNextPass shared desk pass)
     (told : GoesOn shared.queue desk.taker now.seat after.taker) (seat : IsClaimSeatOf shared.classes now.claimant)

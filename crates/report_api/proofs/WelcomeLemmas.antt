@@ -1,10 +1,6 @@
 -- A pass that comes back with its claimant.
-use Rattle.report_api.proofs.Names.{◌≡◌, ℕ, ◌<◌, ◌≢◌, ◌⊎◌, ◌≤◌, Option, Some, List, [], length, length-map, slice_set, refl, inl, inr, arith, length-set, at_set, set_here, set_else, at_length, there, seat_memo, ended, Giver, AllOf, Welcomed, giver_memo, log_of, below_or, nothing_past, AreTied, log_at, PassMemo, IsPassOf, pass_memo, sizes_of, Pass, Shared, get_elem?, some}
+use Rattle.report_api.proofs.Names.{◌≡◌, ℕ, ◌<◌, ◌≢◌, ◌⊎◌, ◌≤◌, Option, Some, List, [], length, length-map, slice_set, refl, inl, inr, arith, length-set, at_set, set_here, set_else, at_length, there, seat_memo, ended, Giver, AllOf, Welcomed, giver_memo, log_of, below_or, nothing_past, AreTied, log_at, PassMemo, IsPassOf, pass_memo, sizes_of, Pass, Shared, get_elem?, some, Class, IsHeldClaimant, memo_at, IsHeldCaller, IsHeldPass}
 use Rattle.buffer_classes.specs.Names as classes
-use Rattle.buffer_classes.specs.declared.class.Class.{Class}
-use Rattle.buffer_classes.specs.{IsHeldClaimant, memo_at}
-use Rattle.report_queue.specs.{IsHeldCaller}
-use Rattle.report_api.specs.{IsHeldPass}
 
 module _ {shared : Shared} {pass : Pass} {back : List (Option PassMemo)} {olds news : List Giver} (its : IsPassOf shared pass)
     (as_many : length olds ≡ length shared.classes.classes.items)

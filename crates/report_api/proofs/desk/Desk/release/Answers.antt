@@ -1,6 +1,5 @@
-use Rattle.report_api.proofs.Names.{arith, refl, Pass}
+use Rattle.report_api.proofs.Names.{arith, refl, Pass, Desk}
 use Rattle.report_api.proofs.ReleaseLemmas.{pass_again, tied_released}
-use Rattle.report_api.specs.declared.desk.Desk.{Desk}
 use Rattle.report_api.proofs.desk.Desk.release.Goals as goal
 
 abbrev after : goal.After-release-2 → Desk

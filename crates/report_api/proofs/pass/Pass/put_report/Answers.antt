@@ -1,5 +1,4 @@
-use Rattle.report_api.proofs.Names.{◌≡◌, length, refl, arith, common_steps, nil_from_length}
-use Rattle.report_api.specs.Names.{Absent}
+use Rattle.report_api.proofs.Names.{◌≡◌, length, refl, arith, common_steps, nil_from_length, Absent}
 use Rattle.report_api.proofs.{plain_after, put_adds}
 use Rattle.report_api.proofs.pass.Pass.put_report.Goals as goal
 

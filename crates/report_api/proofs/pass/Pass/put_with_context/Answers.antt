@@ -1,6 +1,4 @@
-use Rattle.report_api.proofs.Names.{ℕ, length, refl, ap, arith, common_steps, sizes_of, pass_memo}
-use Rattle.buffer_classes.specs.Classes.{first_fitting}
-use Rattle.report_api.specs.Names.{Kept}
+use Rattle.report_api.proofs.Names.{ℕ, length, refl, ap, arith, common_steps, sizes_of, pass_memo, Kept, first_fitting}
 use Rattle.report_api.proofs.{missing_within, steps_for, first_in, kept_asks, missed_adds, looks_lost, pass_after, put_adds}
 use Rattle.report_api.proofs.pass.Pass.put_with_context.Goals as goal
 
