@@ -1,20 +1,10 @@
 -- Lines that are in range and in order have no fault, each after the lines before it.
-use Rattle.journal.proofs.Names.{◌≡◌, ℕ, ◌+◌, ◌<◌, ◌≤◌, ◌++◌, ◌∷◌, List, [], length, map, take, get_or, refl, append_assoc, length-set, arith, true, Ok, flat_map, Turn, begun, flat_map-push, has_pair, Entry, Loss, Line, enters, loses, turn_told, Told}
-use Rattle.std.proofs.Common.{◌↔◌, false}
+use Rattle.journal.proofs.Names.{◌≡◌, ℕ, ◌+◌, ◌<◌, ◌≤◌, ◌++◌, ◌∷◌, List, [], length, map, take, get_or, refl, append_assoc, length-set, arith, true, Ok, flat_map, Turn, begun, flat_map-push, has_pair, Entry, Loss, Line, enters, loses, turn_told, Told, Past, start, next, fault_of, pair_of, is_in_ranges, Fits, Follows, IsHeld, journal_grammar, begins, lines_told, AreFaultless, told, nat_tests, common_steps, flat_map-append, ◌↔◌, false, append-nil, length-append, take-append-drop, drop, replicate, AllByRecursion, Parts, entries_of}
 use Rattle.std.proofs.lemmas.Bool.{eq-eqb}
-use Rattle.std.proofs.lemmas.Bool.Decides.{nat_tests}
-use Rattle.std.proofs.lemmas.Grind.{common_steps, flat_map-append}
-use Rattle.std.proofs.lemmas.List.{append-nil, length-append, take-append-drop}
-use Rattle.std.specs.Prelude.{drop, replicate}
-use Rattle.std.specs.List.{AllByRecursion}
 use Rattle.history_spec.specs.{KeepUpFrom, RiseFrom, calls_of}
-use Rattle.ids_config.specs.Parts.{Parts}
 use Rattle.ids_types.proofs.HistoryLemmas.{length_with_entry}
-use Rattle.ids_types.specs.{entries_of}
 use Rattle.text_spec.proofs.JournalFits.{all_in_ranges, calls_stay, has_pair-more, in_order, turns_few}
 use Rattle.text_spec.proofs.TraceFacts.{all_append, all_split}
-use Rattle.text_spec.specs.{Past, start, next, fault_of, pair_of, is_in_ranges, Fits, Follows, IsHeld, journal_grammar, begins, lines_told, AreFaultless}
-use Rattle.journal.specs.Answers.{told}
 use Rattle.journal.specs.Fitting.{AreInRange, IsInOrder, IsTurnInRange}
 
 -- what the lines so far ask of a line

@@ -1,20 +1,9 @@
 -- How many bytes a line has at most.
-use Rattle.journal.proofs.Names.{◌≡◌, ℕ, ◌+◌, ◌-◌, ◌<◌, ◌≤◌, ◌^◌, List, [], ◌∷◌, length, map, arith, true, decimal, join_with_byte, point, ended_line, Line, enters, loses, fields_of, Entry, refl, ap, ◌∙◌}
-use Rattle.std.proofs.lemmas.Bool.Decides.{nat_tests}
+use Rattle.journal.proofs.Names.{◌≡◌, ℕ, ◌+◌, ◌-◌, ◌<◌, ◌≤◌, ◌^◌, List, [], ◌∷◌, length, map, arith, true, decimal, join_with_byte, point, ended_line, Line, enters, loses, fields_of, Entry, refl, ap, ◌∙◌, act_fields, begins, context_word, has_event, is_act, is_call, is_claim, is_context, is_in_ranges, stamp_text, nat_tests, common_steps, length-append, take_more, ◌*◌, get_or, sum_by, take, Option, Some, None, list_all, Parts, sum_by-cons, sum_by_push, sensor_is_there, Carried, Absent, Kept, Missing, Act, Report, State, SetMode, most_bytes, most_for, most_of, most_with}
 use Rattle.std.proofs.lemmas.Fmt.{length-decimal-le_wide}
-use Rattle.std.proofs.lemmas.Grind.{common_steps}
-use Rattle.std.proofs.lemmas.List.{length-append, take_more}
-use Rattle.std.proofs.lemmas.List.Sums.{sum_by-cons, sum_by_push}
 use Rattle.ids_types.specs.declared.entry.TurnHead.{TurnHead}
-use Rattle.std.specs.List.{list_all}
-use Rattle.std.specs.Prelude.{◌*◌, get_or, sum_by, take, Option, Some, None}
-use Rattle.ids_config.specs.Parts.{Parts}
 use Rattle.text_spec.proofs.HexadecimalLemmas.{length_hex}
-use Rattle.text_spec.proofs.JournalFacts.{sensor_is_there}
-use Rattle.text_spec.specs.Below.{Mode, Stamp, mode_name, to_be_bytes, w64}
-use Rattle.text_spec.specs.JournalText.{Carried, Absent, Kept, Missing, Act, Report, State, SetMode}
-use Rattle.text_spec.specs.{act_fields, begins, context_word, has_event, is_act, is_call, is_claim, is_context, is_in_ranges, stamp_text}
-use Rattle.journal.specs.Printing.{most_bytes, most_for, most_of, most_with}
+use Rattle.text_spec.specs.Below.{Stamp, mode_name, to_be_bytes, w64}
 
 -- how many digits a number has at most
 short : (n : ℕ) → (n < 10 → length (decimal n) ≤ 1) × (n < 10 ^ 2 → length (decimal n) ≤ 2) × (n < 10 ^ 3 → length (decimal n) ≤ 3)
@@ -34,9 +23,6 @@ stamp_short : (stamp : Option Stamp) → length (stamp_text stamp) ≤ 16
 stamp_short None = omega arith
 stamp_short (Some stamp) = omega (arith, length_hex (to_be_bytes w64 stamp.0))
 
-mode_short : (mode : Mode) → length (mode_name mode) ≤ 26
-mode_short mode = grind arith
-
 context_short : (context : Carried (List ℕ)) → is_context context ≡ true → 47 + length (context_word context) ≤ most_with context
 context_short Absent is = omega arith
 context_short (Kept class claim bytes) is = simp length-append (grind (arith, nat_tests, short class, short claim, length_hex bytes, is))
@@ -53,7 +39,7 @@ act_short config caller call (Report event count stamp context) few place is has
     simp length-append (grind (arith, nat_tests, call_short caller call place, short event.0, sensor_is_there config event.0 has, short count, stamp_short stamp, context_short context, few, is))
 act_short config caller call (State state) few place is has = simp length-append (grind (arith, nat_tests, call_short caller call place, short state, is))
 act_short config caller call (SetMode event mode) few place is has =
-    simp length-append (grind (arith, nat_tests, call_short caller call place, short event.0, mode_short mode, few, has))
+    let mode : length (mode_name mode) ≤ 26 = grind arith in simp length-append (grind (arith, nat_tests, call_short caller call place, short event.0, mode, few, has))
 
 pub line_is_short : (config : Parts) (line : Line) → length config.events ≤ 256 → is_in_ranges config line ≡ true → length (ended_line (fields_of line)) ≤ most_bytes line
 line_is_short config (begins head) few is =

@@ -1,9 +1,5 @@
 -- The text of lines, one after another.
-use Rattle.journal.proofs.Names.{◌≡◌, ℕ, List, [], ◌∷◌, ◌++◌, length, map, refl, ap, ◌∙◌, append_assoc, arith, decimal, flat_map, join_with_byte, map-append, Turn, point, ended_line, Entry, Loss, Line, enters, loses, line_for, fields_of, turn_told, flat_map-push, text_of-map, lines_text, turn_text, turns_text, losses_text, pointed}
-use Rattle.text_spec.specs.{journal_text}
-use Rattle.journal.specs.Answers.{told}
-use Rattle.std.proofs.lemmas.Bool.Decides.{nat_tests}
-use Rattle.std.proofs.lemmas.Grind.{common_steps}
+use Rattle.journal.proofs.Names.{◌≡◌, ℕ, List, [], ◌∷◌, ◌++◌, length, map, refl, ap, ◌∙◌, append_assoc, arith, decimal, flat_map, join_with_byte, map-append, Turn, point, ended_line, Entry, Loss, Line, enters, loses, line_for, fields_of, turn_told, flat_map-push, text_of-map, lines_text, turn_text, turns_text, losses_text, pointed, journal_text, told, nat_tests, common_steps}
 
 -- the entries of a turn, and one more
 pub entries-push : (front : List (Entry (List ℕ))) (entry : Entry (List ℕ)) → lines_text (map enters (front ++ entry ∷ [])) ≡ lines_text (map enters front) ++ ended_line (fields_of (enters entry))

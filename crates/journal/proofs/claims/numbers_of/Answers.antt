@@ -1,5 +1,4 @@
-use Rattle.journal.proofs.Names.{take, numbers_in, ◌≡◌, ◌+◌, ◌-◌, suc, sym, ◌∙◌, arith, length-set, front_more, numbers_more}
-use Rattle.std.proofs.lemmas.Grind.{common_steps}
+use Rattle.journal.proofs.Names.{take, numbers_in, ◌≡◌, ◌+◌, ◌-◌, suc, sym, ◌∙◌, arith, length-set, front_more, numbers_more, common_steps}
 use Rattle.journal.proofs.claims.numbers_of.Goals as goal
 
 pub loop-i-preserved : goal.loop-i-preserved

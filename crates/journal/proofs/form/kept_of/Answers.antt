@@ -1,5 +1,4 @@
-use Rattle.journal.proofs.Names.{arith, last_hex}
-use Rattle.ids_types.specs.declared.entry.Carried.TheVariants.{Kept}
+use Rattle.journal.proofs.Names.{arith, last_hex, Kept}
 use Rattle.journal.proofs.form.kept_of.Goals as goal
 
 pub returns-in_err-bytes : goal.returns-in_err-bytes

@@ -1,5 +1,4 @@
-use Rattle.journal.proofs.Names.{arith, last_context}
-use Rattle.text_spec.specs.{report_form}
+use Rattle.journal.proofs.Names.{arith, last_context, report_form}
 use Rattle.journal.proofs.form.report_of.Goals as goal
 
 pub returns-in_err-context : goal.returns-in_err-context

@@ -1,8 +1,5 @@
-use Rattle.journal.proofs.Names.{◌+◌, arith, refl}
+use Rattle.journal.proofs.Names.{◌+◌, arith, refl, entry_by, sum_by-take-le, most_of}
 use Rattle.journal.proofs.LengthLemmas.{most_all, most_more}
-use Rattle.std.proofs.lemmas.List.Sums.{sum_by-take-le}
-use Rattle.ids_types.specs.{entry_by}
-use Rattle.journal.specs.Printing.{most_of}
 use Rattle.journal.proofs.lengths.turn_fits.Goals as goal
 
 pub loop-entry-preserved : goal.loop-entry-preserved

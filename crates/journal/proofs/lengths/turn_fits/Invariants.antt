@@ -1,6 +1,5 @@
-use Rattle.journal.proofs.Names.{◌≡◌, ◌+◌, take}
+use Rattle.journal.proofs.Names.{◌≡◌, ◌+◌, take, entry_by}
 use Rattle.journal.proofs.LengthLemmas.{most_in}
-use Rattle.ids_types.specs.{entry_by}
 use Rattle.journal.proofs.lengths.turn_fits.Given as goal
 
 -- what the head and the first entries take, and what is left, are the room

@@ -1,5 +1,4 @@
-use Rattle.journal.proofs.Names.{map, ended_line, enters, fields_of, lines_text}
-use Rattle.ids_types.specs.{entry_by}
+use Rattle.journal.proofs.Names.{map, ended_line, enters, fields_of, lines_text, entry_by}
 use Rattle.journal.proofs.AppendingLemmas.{handed_on, one_appended, one_refused}
 use Rattle.journal.proofs.PrintingLemmas.{held-push}
 use Rattle.journal.proofs.printing.push_entries.Goals as goal

@@ -1,6 +1,5 @@
 use Rattle.journal.proofs.AppendingLemmas.{Appended}
-use Rattle.journal.proofs.Names.{map, enters, lines_text}
-use Rattle.ids_types.specs.{entry_by}
+use Rattle.journal.proofs.Names.{map, enters, lines_text, entry_by}
 use Rattle.journal.proofs.printing.push_entries.Given as goal
 
 -- the first entries have been printed
