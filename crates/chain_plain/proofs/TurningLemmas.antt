@@ -1,9 +1,8 @@
 -- The entries of a recorded turn, lent to a chain.
-use Rattle.chain_plain.proofs.Names.{◌≡◌, ℕ, ◌*◌, ◌≤◌, List, length, length-map, map, ap, arith, All-map, act_by, entry_by, act_bytes, kept_bytes, common_steps, get_or-map, ◌↔◌}
+use Rattle.chain_plain.proofs.Names.{◌≡◌, ℕ, ◌*◌, ◌≤◌, List, length, length-map, map, ap, arith, All-map, act_by, entry_by, act_bytes, kept_bytes, common_steps, get_or-map, ◌↔◌, FitsAct, FitsTurn, bytes_in}
 use Rattle.std.proofs.lemmas.List.Sums.{sum_by-le}
 use Rattle.ids_types.specs.declared.entry.Act.{Act}
 use Rattle.ids_types.specs.declared.entry.Entry.{Entry}
-use Rattle.filter_chain.specs.{FitsAct, FitsTurn, bytes_in}
 
 module _ {B : Type 0} (held : B → List ℕ) (events : ℕ) where
   -- an act fits where what it tells does

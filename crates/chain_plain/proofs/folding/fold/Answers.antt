@@ -1,5 +1,4 @@
-use Rattle.chain_plain.proofs.Names.{◌≡◌, [], ◌∷◌, ◌++◌, arith, last_of, common_steps}
-use Rattle.chain_plain.specs.{turn_with}
+use Rattle.chain_plain.proofs.Names.{◌≡◌, [], ◌∷◌, ◌++◌, arith, last_of, common_steps, turn_with}
 use Rattle.chain_plain.proofs.TellingLemmas.{tells_more}
 use Rattle.chain_plain.proofs.folding.fold.Goals as goal
 

@@ -1,6 +1,4 @@
-use Rattle.chain_plain.proofs.Names.{All, AllByRecursion, ◌≡◌, ◌++◌, List, length, Turn}
-use Rattle.filter_chain.specs.{last_tick, IsShort}
-use Rattle.chain_plain.specs.{CanTake, RiseFrom, IsReady, Tells}
+use Rattle.chain_plain.proofs.Names.{All, AllByRecursion, ◌≡◌, ◌++◌, List, length, Turn, last_tick, IsShort, CanTake, RiseFrom, IsReady, Tells}
 use Rattle.chain_plain.proofs.folding.fold.Given as goal
 
 -- the chain stands for the turns that were taken, the tally tells of them, and what is left can be taken

@@ -1,5 +1,4 @@
-use Rattle.chain_plain.proofs.Names.{◌≡◌, room_of, rules, [], ◌∷◌, ◌++◌, arith, newest_first, common_steps, recursion_from_All}
-use Rattle.chain_plain.specs.{turn_with, CanTake}
+use Rattle.chain_plain.proofs.Names.{◌≡◌, room_of, rules, [], ◌∷◌, ◌++◌, arith, newest_first, common_steps, recursion_from_All, turn_with, CanTake}
 use Rattle.chain_plain.proofs.TurningLemmas.{items_fit, told_fits}
 use Rattle.chain_plain.proofs.retaking.retake.Goals as goal
 

@@ -1,6 +1,4 @@
-use Rattle.chain_plain.proofs.Names.{Parts, All, AllByRecursion, ◌≡◌, ◌++◌, [], List, length, reverse, Turn}
-use Rattle.filter_chain.specs.Parcels.{IsShort}
-use Rattle.chain_plain.specs.{AreInOrder, CanTake, IsReady}
+use Rattle.chain_plain.proofs.Names.{Parts, All, AllByRecursion, ◌≡◌, ◌++◌, [], List, length, reverse, Turn, AreInOrder, CanTake, IsReady, IsShort}
 use Rattle.chain_plain.proofs.retaking.retake.Given as goal
 
 -- the chain stands for the turns that were taken, if they are in order, and what is left can be taken
