@@ -6,16 +6,14 @@
 //! prints the tables of times. No clause says how fast anything is.
 #![tactic(auto)]
 
-mod bench;
-mod reports;
 mod rings;
 mod rounds;
 mod times;
 
-use bench::Bench;
-use reports::{FEW, FILTERED, MANY};
+use rings::{FEW, FILTERED, MANY};
 use std::rt::Env;
 use std::{env, io};
+use times::Bench;
 
 /// The context data of reports that have none, and of those that have some.
 const NONE: &[u8] = &[];

@@ -2,8 +2,7 @@
 ghost use Rattle.std.specs.Prelude.{All};
 ghost use Rattle.std.specs.Thread.{IsSync};
 
-use crate::bench::Bench;
-use crate::times::{Pair, Times, Told};
+use crate::times::{Bench, Pair, Times, Told};
 use std::alloc::AllocError;
 use std::hint::spin_loop;
 use std::rt::Clock;

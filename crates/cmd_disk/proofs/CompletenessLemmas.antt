@@ -1,6 +1,5 @@
 -- How a run over a disk ends that has what it needs, and in which no call fails.
-use Rattle.cmd_disk.proofs.Names.{CannotRead, CannotWrite, Damaged, Deserves, EndsAs, Err, HasDiskCause, HasKept, Heard, IsTrue, List, NoMemory, Ok, OnDisk, Puts, Refusal, Refused, Result, Shelved, Shown, Stop, TellsEnd, WornAfter, answer_status, answer_text, arith, bytes_of, inl, inr, kept_slot, refl, subst, ℕ, ◌+◌, ◌^◌, ◌≡◌, ◌⊎◌, Command}
-use Rattle.cmd_spec.specs.Keeping.{MayStopOnDisk}
+use Rattle.cmd_disk.proofs.Names.{CannotRead, CannotWrite, Damaged, Deserves, EndsAs, Err, HasDiskCause, HasKept, Heard, IsTrue, List, NoMemory, Ok, OnDisk, Puts, Refusal, Refused, Result, Shelved, Shown, Stop, TellsEnd, WornAfter, answer_status, answer_text, arith, bytes_of, inl, inr, kept_slot, refl, subst, ℕ, ◌+◌, ◌^◌, ◌≡◌, ◌⊎◌, Command, MayStopOnDisk}
 use Rattle.cmd_disk.specs.Completeness.{NoneFailed}
 use Rattle.cmd_disk.proofs.EndLemmas.{one_sequence}
 

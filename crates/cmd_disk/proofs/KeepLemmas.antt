@@ -1,7 +1,6 @@
 -- How a `keep` and a `recall` end, over the files.
-use Rattle.cmd_disk.proofs.Names.{BeginFault, Bor, EndsAs, Err, Failed, Global, IsTrue, KeepFiles, Keeping, KeepsBehind, KeptAtEnd, LeavesBehind, LeavesOnly, List, NoMemory, Ok, OnDisk, PairFiles, Reading, Reads, Recorded, Result, Shelved, Shown, State, Stop, StopsFor, StopsKeeping, Vec, [], gives, goes_on, inl, keep, keeps, not_begun, over, plain_end, plain_stop, read_none, read_over, reading_of, recall, recalls, recorded_in, refl, subst, task_found, ℕ, ⊤, ◌≡◌, Command, Task}
+use Rattle.cmd_disk.proofs.Names.{BeginFault, Bor, EndsAs, Err, Failed, Global, IsTrue, KeepFiles, Keeping, KeepsBehind, KeptAtEnd, LeavesBehind, LeavesOnly, List, NoMemory, Ok, OnDisk, PairFiles, Reading, Reads, Recorded, Result, Shelved, Shown, State, Stop, StopsFor, StopsKeeping, Vec, [], gives, goes_on, inl, keep, keeps, not_begun, over, plain_end, plain_stop, read_none, read_over, reading_of, recall, recalls, recorded_in, refl, subst, task_found, ℕ, ⊤, ◌≡◌, Command, Task, MayStopOnDisk}
 use Rattle.cmd_files.specs.declared.stop.DiskStop.{DiskStop}
-use Rattle.cmd_spec.specs.Keeping.{MayStopOnDisk}
 use Rattle.cmd_spec.proofs.Names.{CanBeDone}
 use Rattle.memory_store.specs.declared.store.BeginFault.TheVariants as begin
 

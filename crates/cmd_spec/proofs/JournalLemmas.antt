@@ -1,11 +1,10 @@
 -- What a journal that is folded says of its turns.
-use Rattle.cmd_spec.proofs.Names.{Act, AllByRecursion, Cuts, Entry, IsJournal, Line, List, Parts, Report, Turn, [], ap, append_assoc, arith, begins, cuts_go_on, ends_of, enters, entries_of, flat_map, length, length-append, length-map, line_for, lines_told, loses, map, messages_of, refl, reverse, reverse_onto, told, true, turn_told, ℕ, ◌++◌, ◌+◌, ◌∷◌, ◌≡◌, ◌≤◌, subst, sym}
+use Rattle.cmd_spec.proofs.Names.{Act, AllByRecursion, Cuts, Entry, IsJournal, Line, List, Parts, Report, Turn, [], ap, append_assoc, arith, begins, cuts_go_on, ends_of, enters, entries_of, flat_map, length, length-append, length-map, line_for, lines_told, loses, map, messages_of, refl, reverse, reverse_onto, told, true, turn_told, ℕ, ◌++◌, ◌+◌, ◌∷◌, ◌≡◌, ◌≤◌, subst, sym, Fits, start, text_of, Past, is_act, has_event, journal_grammar, AreFaultless, next}
 use Rattle.filter_chain.specs.Turning.{FitsAct}
 use Rattle.chain_plain.specs.Recorded.{CanFold, CanTake, RiseFrom}
 use Rattle.chain_spec.proofs.GrowthLemmas.{messages_grow}
 use Rattle.chain_spec.specs.{messages, ends}
 use Rattle.std.proofs.lemmas.List.Elements.{All-from_recursion}
-use Rattle.text_spec.specs.{Fits, start, text_of, Past, is_act, has_event, journal_grammar, AreFaultless, next}
 use Rattle.text_spec.proofs.JournalFits.{turns_few}
 use Rattle.text_spec.proofs.JournalFacts.{entry_passes}
 use Rattle.ids_types.specs.declared.loss.Loss.{Loss}

@@ -1,6 +1,5 @@
 -- How a command ended, how that was told, and what the files deserve.
-use Rattle.cmd_spec.proofs.Names.{Bool, Bor, CanBeDone, CannotRead, CannotWrite, Command, Deserves, DidWork, Does, EndsAs, EndsOrFails, EndsWith, Err, Global, Heard, IsTrue, List, NoMemory, None, Ok, OnDisk, Option, Puts, Ran, RanCommand, Refusal, Refused, Refuses, Result, SameBut, Shelved, Some, Stop, StopsFor, Task, Tells, Vec, Work, answer_status, answer_text, arith, false, inl, inr, judge, no_memory_text, plain_end, plain_stop, refl, row_of, stop_status, true, written_by, written_of, ℕ, ⊤, ◌≡◌, ◌≢◌, ap}
-use Rattle.cmd_spec.specs.Names.{DiskStop, MissesOne, disk_status}
+use Rattle.cmd_spec.proofs.Names.{Bool, Bor, CanBeDone, CannotRead, CannotWrite, Command, Deserves, DidWork, Does, EndsAs, EndsOrFails, EndsWith, Err, Global, Heard, IsTrue, List, NoMemory, None, Ok, OnDisk, Option, Puts, Ran, RanCommand, Refusal, Refused, Refuses, Result, SameBut, Shelved, Some, Stop, StopsFor, Task, Tells, Vec, Work, answer_status, answer_text, arith, false, inl, inr, judge, no_memory_text, plain_end, plain_stop, refl, row_of, stop_status, true, written_by, written_of, ℕ, ⊤, ◌≡◌, ◌≢◌, ap, DiskStop, MissesOne, disk_status}
 
 module _ (command : Command) (status : ℕ) (old new : Shelved) (before after : Heard) where
   -- a run that ended so, of whose answer this holds

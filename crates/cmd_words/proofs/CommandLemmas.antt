@@ -1,8 +1,6 @@
 -- Words and their bytes.
-use Rattle.cmd_words.proofs.Names.{◌≡◌, Bool, List, [], ◌∷◌, ℕ, map, refl, ap, arith, ◌||◌, list_any}
-use Rattle.std.proofs.Common.{IsTrue, None, Option, Some}
+use Rattle.cmd_words.proofs.Names.{◌≡◌, Bool, List, [], ◌∷◌, ℕ, map, refl, ap, arith, ◌||◌, list_any, IsTrue, None, Option, Some, Command, are_read_by_clap, command_of, disk_of, gen_for, gen_of, replay_of, report_of}
 use Rattle.gen_options.specs.{Wanted, words_give}
-use Rattle.cmd_words.specs.Command.{Command, are_read_by_clap, command_of, disk_of, gen_for, gen_of, replay_of, report_of}
 
 -- a test of mapped elements
 pub any_of_mapped : {A B : Type 0} (p : B → Bool) (f : A → B) (xs : List A) → list_any p (map f xs) ≡ list_any (λ x. p (f x)) xs

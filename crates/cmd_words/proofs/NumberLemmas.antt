@@ -1,11 +1,7 @@
 -- A word that is a number.
-use Rattle.cmd_words.proofs.Names.{◌≡◌, ℕ, false, List, [], ◌∷◌, ◌≤◌, refl, ap, ◌∙◌, arith, ◌&&◌}
-use Rattle.std.proofs.Common.{◌++◌, ◌^◌, Option, None, Some, length}
+use Rattle.cmd_words.proofs.Names.{◌≡◌, ℕ, false, List, [], ◌∷◌, ◌≤◌, refl, ap, ◌∙◌, arith, ◌&&◌, ◌++◌, ◌^◌, Option, None, Some, length, list_all, join_with_byte, ◌<◌, ◌==◌, nat_le, option_map, if◌then◌else◌, number_between}
 use Rattle.std.proofs.lemmas.List.Splits.{join_with_byte-slice_split, length-slice_split}
 use Rattle.std.specs.Char.{is_ascii_digit}
-use Rattle.std.specs.List.{list_all, join_with_byte}
-use Rattle.std.specs.Prelude.{◌<◌, ◌==◌, nat_le, option_map, if◌then◌else◌}
-use Rattle.cmd_words.specs.Command.{number_between}
 use Rattle.text_spec.specs.{a_number, first_as, capped, number_in, pieces_of}
 use Rattle.text_spec.specs.Maybe.{◌>>=◌, ended}
 

@@ -1,15 +1,13 @@
 -- The windows of the events that are aggregated close, and it is as if those of all events did.
-use Rattle.event_chain.proofs.Names.{◌≡◌, ℕ, ◌+◌, ◌<◌, ◌≤◌, zero, suc, Bool, true, false, List, [], ◌∷◌, length, map, filter, None, is_some, refl, sym, ap, subst, ◌∙◌, arith, below_more, if◌then◌else◌, IsFalse, All, range_with_len, common_steps, length-map, set-get_or, Output, EventIndex, Parts, event_at, gated, Moment, closes, with_all, fresh_slot, is_due, slot_at, slot_by, Slot, stands_closing, Start, Filters, Knowing, IsBehind, Windowed, aggregating_in, is_aggregated, get_or-map, with_all-append, ◌↔◌, inl, inr, get_or, get_or_past, list_any, moments, slots_by, Turn}
+use Rattle.event_chain.proofs.Names.{◌≡◌, ℕ, ◌+◌, ◌<◌, ◌≤◌, zero, suc, Bool, true, false, List, [], ◌∷◌, length, map, filter, None, is_some, refl, sym, ap, subst, ◌∙◌, arith, below_more, if◌then◌else◌, IsFalse, All, range_with_len, common_steps, length-map, set-get_or, Output, EventIndex, Parts, event_at, gated, Moment, closes, with_all, fresh_slot, is_due, slot_at, slot_by, Slot, stands_closing, Start, Filters, Knowing, IsBehind, Windowed, aggregating_in, is_aggregated, get_or-map, with_all-append, ◌↔◌, inl, inr, get_or, get_or_past, list_any, moments, slots_by, Turn, All-filter, due_closes}
 use Rattle.event_chain.specs.Names.{WindowsStand}
 use Rattle.std.proofs.lemmas.Bool.{cases_Bool, cases_lt}
-use Rattle.std.proofs.lemmas.List.Elements.{All-filter}
 use Rattle.std.proofs.lemmas.List.Folds.{list_any_at, list_any_none}
 use Rattle.std.proofs.lemmas.Map.Views.{any-filter_same}
 use Rattle.std.proofs.lemmas.List.FromFn.{get_or-range_with_len, length-range_with_len, map-range_with_len_more}
 use Rattle.std.proofs.lemmas.List.Sums.{count_by-le-length, length-filter}
 use Rattle.chain_spec.specs.Quiet.{NoneDue}
 use Rattle.filter_aggregate.proofs.SlotLemmas.{slot_at_by}
-use Rattle.filter_aggregate.proofs.StandsLemmas.{due_closes}
 use Rattle.event_chain.proofs.CallLemmas.{IsSilent, none_of, behind_none}
 
 -- ---- numbers that pass a test, one after another

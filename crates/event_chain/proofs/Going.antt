@@ -1,6 +1,5 @@
 -- What lasts while moments come one after another.
-use Rattle.event_chain.proofs.Names.{ap, carried_room, length_permutation, ℕ, ◌+◌, ◌-◌, ◌≤◌, append_assoc, List, ◌++◌, length, map, arith, rules, common_steps, entry_by, Output, Entry, Moment, act_moment, HandsBack, all_kept, Filters, CanSend, HasSentRoom, TakesRoom, Stays}
-use Rattle.std.proofs.lemmas.List.Sorted.{sum_by-IsPermutation}
+use Rattle.event_chain.proofs.Names.{ap, carried_room, length_permutation, ℕ, ◌+◌, ◌-◌, ◌≤◌, append_assoc, List, ◌++◌, length, map, arith, rules, common_steps, entry_by, Output, Entry, Moment, act_moment, HandsBack, all_kept, Filters, CanSend, HasSentRoom, TakesRoom, Stays, sum_by-IsPermutation}
 use Rattle.event_chain.proofs.HandsLemmas.{hands_next, hands_none}
 
 -- the moments of entries

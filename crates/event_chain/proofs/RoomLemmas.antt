@@ -1,6 +1,5 @@
 -- A parcel that was kept and is handed out, in a message.
-use Rattle.event_chain.proofs.Names.{◌≡◌, ℕ, ◌+◌, ◌≤◌, List, [], length, Option, Some, None, IfSome, option_map, option_to_list, arith, All, All-permutation, IsShort, Accounts, carried_room, most_message}
-use Rattle.std.proofs.lemmas.List.Elements.{All-head}
+use Rattle.event_chain.proofs.Names.{◌≡◌, ℕ, ◌+◌, ◌≤◌, List, [], length, Option, Some, None, IfSome, option_map, option_to_list, arith, All, All-permutation, IsShort, Accounts, carried_room, most_message, All-head}
 
 module _ {B : Type 0} (held : B → List ℕ) where
   -- a message takes no more than its parcel does with it

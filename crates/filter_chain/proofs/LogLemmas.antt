@@ -1,7 +1,5 @@
 -- A turn that is added to a history, entry by entry.
-use Rattle.std.proofs.Common.{◌≡◌, ℕ, ◌+◌, List, [], ◌∷◌, ◌++◌, refl, ap, arith}
-use Rattle.ids_types.specs.declared.entry.Entry.{Entry}
-use Rattle.ids_types.specs.Turns.{Room, Turn, extended, room_after, with_entry}
+use Rattle.filter_chain.proofs.Names.{◌≡◌, ℕ, ◌+◌, List, [], ◌∷◌, ◌++◌, refl, ap, arith, Entry, Room, Turn, extended, room_after, with_entry}
 
 -- an entry goes to the last turn
 pub with_entry_last : (turns : List Turn) (turn : Turn) (entry : Entry (List ℕ))

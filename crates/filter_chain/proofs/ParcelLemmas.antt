@@ -1,9 +1,6 @@
 -- What holds of all parcels that come to a chain and that it keeps holds of all that it hands back and keeps then.
-use Rattle.std.proofs.Common.{List, [], ◌∷◌, ◌++◌, Option, Some, None, IfSome}
-use Rattle.std.specs.List.{All, AllByRecursion, cons_option}
-use Rattle.std.proofs.lemmas.List.Elements.{All-append, All-from_recursion, recursion_from_All}
+use Rattle.filter_chain.proofs.Names.{List, [], ◌∷◌, ◌++◌, Option, Some, None, IfSome, All, AllByRecursion, cons_option, All-append, All-from_recursion, recursion_from_All, Entry}
 use Rattle.std.proofs.lemmas.List.Sorted.{All-permutation}
-use Rattle.ids_types.specs.declared.entry.Entry.{Entry}
 use Rattle.filter_chain.specs.Parcels.{HandsBack, all_parcels, parcel_of}
 
 module _ {B : Type 0} (P : B → Type 0) where

@@ -1,13 +1,9 @@
 -- How much room context data take in messages.
-use Rattle.std.proofs.Common.{ℕ, ◌+◌, ◌*◌, ◌≤◌, List, length, IfSome, arith}
-use Rattle.std.specs.List.{All}
+use Rattle.filter_chain.proofs.Names.{ℕ, ◌+◌, ◌*◌, ◌≤◌, List, length, IfSome, arith, All, All-weaker, Entry, IsShort, all_parcels, parcel_of, FitsAct, FitsLargest, FitsTurn, carried_room, context_room, most_sent}
 use Rattle.std.proofs.Math.Nat.{mul-add, mul_comm, mul-le-mul_left}
-use Rattle.std.proofs.lemmas.List.Elements.{All-weaker}
 use Rattle.std.proofs.lemmas.List.Sums.{sum_by-le}
 use Rattle.ids_types.specs.declared.entry.Act.{Act}
 use Rattle.ids_types.specs.declared.entry.Act.TheVariants.{Report}
-use Rattle.ids_types.specs.declared.entry.Entry.{Entry}
-use Rattle.filter_chain.specs.{IsShort, all_parcels, parcel_of, FitsAct, FitsLargest, FitsTurn, carried_room, context_room, most_sent}
 use Rattle.filter_chain.proofs.ParcelLemmas.{all_parcels_of}
 
 -- a turn of more entries has no less room

@@ -1,12 +1,10 @@
 -- What turns sent, with one turn more.
-use Rattle.std.proofs.Common.{◌≡◌, ◌+◌, ◌≤◌, ◌<◌, List, [], ◌∷◌, ◌++◌, length, reverse, sym, ap, ◌∙◌, arith, length-append}
+use Rattle.filter_chain.proofs.Names.{◌≡◌, ◌+◌, ◌≤◌, ◌<◌, List, [], ◌∷◌, ◌++◌, length, reverse, sym, ap, ◌∙◌, arith, length-append, Turn, Sends, count_of, last_tick, messages_of, newest_tick, Adds, IsTranscript, ends_of}
 use Rattle.std.proofs.lemmas.List.{reverse-append}
 use Rattle.std.proofs.lemmas.Grind.{reverse_onto}
 use Rattle.ids_types.specs.Output.{Output}
-use Rattle.ids_types.specs.Turns.{Turn}
 use Rattle.ids_config.specs.Parts.{Parts}
 use Rattle.chain_spec.specs.{messages, ends, qualified_of, sent, Item, spelled}
-use Rattle.filter_chain.specs.{Sends, count_of, last_tick, messages_of, newest_tick, Adds, IsTranscript, ends_of}
 use Rattle.filter_chain.specs.declared.transcript.Transcript.{Transcript}
 
 -- with one turn more the newest is this one

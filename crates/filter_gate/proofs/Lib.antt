@@ -1,2 +1,3 @@
 mod MakeLemmas
 pub mod StandsLemmas
+pub mod Names

@@ -1,13 +1,7 @@
 -- The gate of a configuration, before anything came.
-use Rattle.std.proofs.Common.{◌≡◌, ◌<◌, List, [], map, refl, arith}
-use Rattle.std.specs.List.{All}
-use Rattle.std.proofs.Math.Nat.{zero-mod}
+use Rattle.filter_gate.proofs.Names.{◌≡◌, ◌<◌, List, [], map, refl, arith, All, zero-mod, Event, Parts, event_at, plain_event, IsEvent, IsValid, Row, fresh_row, Stands}
 use Rattle.std.proofs.lemmas.List.{get_or-map, length-map}
 use Rattle.std.proofs.lemmas.List.Elements.{All-from_recursion, All-weaker}
-use Rattle.ids_config.specs.Parts.{Event, Parts, event_at, plain_event}
-use Rattle.ids_config.specs.Valid.{IsEvent, IsValid}
-use Rattle.filter_gate.specs.Gate.{Row, fresh_row}
-use Rattle.filter_gate.specs.Stands.{Stands}
 
 -- each n of a valid configuration is above 0
 pub all_positive : (config : Parts) → IsValid config → All (λ event. 0 < event.nth) config.events

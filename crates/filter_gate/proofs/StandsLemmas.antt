@@ -1,15 +1,11 @@
 -- A gate that stands for some moments, and one moment more.
-use Rattle.std.proofs.Common.{◌≡◌, ℕ, ◌<◌, ◌+◌, ◌%◌, ◌==◌, ◌&&◌, not, Bool, List, ◌∷◌, None, length, if◌then◌else◌, refl, eq-eqb, arith, rules}
-use Rattle.std.proofs.Math.Nat.{suc-mod}
+use Rattle.filter_gate.proofs.Names.{◌≡◌, ℕ, ◌<◌, ◌+◌, ◌%◌, ◌==◌, ◌&&◌, not, Bool, List, ◌∷◌, None, length, if◌then◌else◌, refl, eq-eqb, arith, rules, suc-mod, Parts, event_at, Gate, row_at, verdict_on, after_asking, gate_asked, row_after, Stands, let_through, fate_by, sampled_fate}
 use Rattle.std.proofs.lemmas.Grind.{common_steps}
 use Rattle.ids_types.specs.declared.mode.Mode.{Mode}
 use Rattle.ids_types.specs.declared.mode.Mode.TheVariants.{Off, Brief, Detailed, BriefBypassing, DetailedBypassing}
-use Rattle.ids_config.specs.Parts.{Parts, event_at}
 use Rattle.chain_spec.specs.{Fate, at_mode, at_block, at_nth, coming, qualified_fate, qualified, is_filtered, is_bypassing, is_detailed, mode_at, state_at, item_in, is_blocked, arrivals, is_nth, sampled_at, Item, Moment, closes, comes, where_true}
 use Rattle.filter_gate.specs.declared.verdict.Cause.TheVariants.{Mode as ByMode, Block as ByBlock, Nth as ByNth}
 use Rattle.filter_gate.specs.declared.verdict.Verdict.TheVariants.{Dropped, Bypass, Pass}
-use Rattle.filter_gate.specs.Gate.{Gate, row_at, verdict_on, after_asking, gate_asked}
-use Rattle.filter_gate.specs.Stands.{row_after, Stands, let_through, fate_by, sampled_fate}
 
 -- one arrival more, counted from the last nth one
 rank : (n nth : ℕ) → (n % nth + 1) % nth ≡ (n + 1) % nth

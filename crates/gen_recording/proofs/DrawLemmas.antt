@@ -1,9 +1,5 @@
 -- Numbers that wrap at 64 bits, the draws that they give, and rounds with more lines.
-use Rattle.gen_recording.proofs.Names.{◌≡◌, ap, map, ◌≤◌, ℕ, ◌+◌, ◌*◌, ◌%◌, ◌^◌, length, refl, add-one, arith, range_with_len, slice_range, length-range_with_len, next_number, context_of, ◌<◌, ◌-◌, zero, suc, List, [], ◌∷◌, ◌++◌, set, get_or, append_assoc, append-nil, replicate, set-get_or, length-map-range_with_len, map-range_with_len_more, common_steps, Asked, Round, with_last, Traced, asking, with_lines}
-use Rattle.std.proofs.lemmas.Grind.{elements}
-use Rattle.std.proofs.lemmas.List.{get_or_at, length_push, map-id, set_at}
-use Rattle.std.proofs.lemmas.List.FromFn.{fill_by_all, get_or-range_with_len}
-use Rattle.text_spec.proofs.TraceFacts.{by_last, last_tick-push, with_last-push}
+use Rattle.gen_recording.proofs.Names.{◌≡◌, ap, map, ◌≤◌, ℕ, ◌+◌, ◌*◌, ◌%◌, ◌^◌, length, refl, add-one, arith, range_with_len, slice_range, length-range_with_len, next_number, context_of, ◌<◌, ◌-◌, zero, suc, List, [], ◌∷◌, ◌++◌, set, get_or, append_assoc, append-nil, replicate, set-get_or, length-map-range_with_len, map-range_with_len_more, common_steps, Asked, Round, with_last, Traced, asking, with_lines, elements, get_or_at, length_push, map-id, set_at, fill_by_all, get_or-range_with_len, by_last, last_tick-push, with_last-push}
 use Rattle.gen_recording.specs.{ramp, number_after}
 
 -- wrapping after the product and after the sum is wrapping once

@@ -1,10 +1,7 @@
 -- The generated configuration has no fault, and the generated trace can be recorded.
-use Rattle.gen_recording.proofs.Names.{◌≡◌, ℕ, zero, suc, ◌+◌, ◌≤◌, ◌<◌, [], ◌∷◌, ◌++◌, length, map, Ok, IsTrue, refl, arith, length-append, range_with_len, length-map-range_with_len, each_event, events_value, internal_value, Options, is_in_range, ranges, all_events, config_of, internal_event, sensor_event, ◌*◌, ◌%◌, ◌==◌, ◌&&◌, if◌then◌else◌, changes, Bool, true, false, List, inl, inr, rules, common_steps, AllByRecursion, flat_map, get_or_past, get_or-map-range_with_len, KeepUpFrom, last_tick, lines_at, round_ticks, IsInRange, HasClassFor, draw, changes_by, generated_round, lines_by, rounds_of, tick_after, calls_from, CanAsk, context_of, report_at, size_of, get_or}
+use Rattle.gen_recording.proofs.Names.{◌≡◌, ℕ, zero, suc, ◌+◌, ◌≤◌, ◌<◌, [], ◌∷◌, ◌++◌, length, map, Ok, IsTrue, refl, arith, length-append, range_with_len, length-map-range_with_len, each_event, events_value, internal_value, Options, is_in_range, ranges, all_events, config_of, internal_event, sensor_event, ◌*◌, ◌%◌, ◌==◌, ◌&&◌, if◌then◌else◌, changes, Bool, true, false, List, inl, inr, rules, common_steps, AllByRecursion, flat_map, get_or_past, get_or-map-range_with_len, KeepUpFrom, last_tick, lines_at, round_ticks, IsInRange, HasClassFor, draw, changes_by, generated_round, lines_by, rounds_of, tick_after, calls_from, CanAsk, context_of, report_at, size_of, get_or, all_append, all_at, keep_append, last_of_all, nat_tests, All-map, recursion_from_All}
 use Rattle.std.proofs.lemmas.Bool.{cases_lt, cond_both}
-use Rattle.std.proofs.lemmas.Bool.Decides.{nat_tests}
-use Rattle.std.proofs.lemmas.List.Elements.{All-map, recursion_from_All}
 use Rattle.ids_config.specs.Values.{event_value, parts_value}
-use Rattle.text_spec.proofs.TraceFacts.{all_append, all_at, keep_append, last_of_all}
 use Rattle.gen_recording.specs.Recording.{CanAskAll, CanRecord, CanTake}
 
 -- ---- the configuration

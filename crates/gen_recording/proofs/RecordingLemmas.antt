@@ -1,11 +1,7 @@
 -- Calls and turns, one after another, and their counts.
-use Rattle.gen_recording.proofs.Names.{◌≡◌, ◌≤◌, ◌<◌, ◌+◌, ℕ, zero, suc, List, [], ◌∷◌, ◌++◌, length, map, take, drop, get_or, reverse, refl, sym, ap, ◌∙◌, arith, common_steps, append_assoc, flat_map, length-map, plain_entry, Parts, FitsAct, KeepUpFrom, Asked, Round, reports, changes, sets, round_ticks, Call, Plan, act_of, call_by, calls_from, calls_of, entries_of, entry_of, CanAsk, IsAt, Recorder, begun_round, round_at, filter, set, cond, count_by, nat_lt, ClassSpec, class_of, AreCalls}
+use Rattle.gen_recording.proofs.Names.{◌≡◌, ◌≤◌, ◌<◌, ◌+◌, ℕ, zero, suc, List, [], ◌∷◌, ◌++◌, length, map, take, drop, get_or, reverse, refl, sym, ap, ◌∙◌, arith, common_steps, append_assoc, flat_map, length-map, plain_entry, Parts, FitsAct, KeepUpFrom, Asked, Round, reports, changes, sets, round_ticks, Call, Plan, act_of, call_by, calls_from, calls_of, entries_of, entry_of, CanAsk, IsAt, Recorder, begun_round, round_at, filter, set, cond, count_by, nat_lt, ClassSpec, class_of, AreCalls, reverse_onto, drop_more, keep_split, last_from-push, nat_tests}
 use Rattle.std.proofs.Math.ListN.{length-set}
-use Rattle.std.proofs.lemmas.Bool.Decides.{nat_tests}
-use Rattle.std.proofs.lemmas.Grind.{reverse_onto}
-use Rattle.std.proofs.lemmas.List.{drop_more}
 use Rattle.std.proofs.lemmas.List.Sums.{sum_by-cons}
-use Rattle.text_spec.proofs.TraceFacts.{keep_split, last_from-push}
 
 -- entries of calls with one call more
 pub entries_more : (config : Parts) (before calls : List Call) (call : Call)

@@ -1,12 +1,9 @@
 -- Where in a log the asks of a call stand, and what was asked by a rest.
-use Rattle.history_spec.proofs.Names.{◌≡◌, ℕ, zero, suc, ◌+◌, ◌-◌, ◌<◌, ◌≤◌, nat_lt, Option, Some, List, [], ◌∷◌, ◌++◌, length, filter, map, take, drop, refl, sym, ap, ◌∙◌, inl, inr, arith, length-map, length-append, cases_eq, subst, Turn, entries_of, Parts, Act, Report, Kept, Missing, Entry, Fate, lost, fate_within, entries_by, entries_from, AreSettled, sizes_in, too_small, small_of, Calls, Follows, CallAsks, lost_number, StandsIn, flat_map-append, some, some-injective, get_elem?}
-use Rattle.history_spec.specs.Names.{ClassSpec}
-use Rattle.history_spec.specs.ClassRests.{context_of, fitting_class, kept_class, ClassRest, ClassesRested, AskedBy, AskInOrder, entries_between}
+use Rattle.history_spec.proofs.Names.{◌≡◌, ℕ, zero, suc, ◌+◌, ◌-◌, ◌<◌, ◌≤◌, nat_lt, Option, Some, List, [], ◌∷◌, ◌++◌, length, filter, map, take, drop, refl, sym, ap, ◌∙◌, inl, inr, arith, length-map, length-append, cases_eq, subst, Turn, entries_of, Parts, Act, Report, Kept, Missing, Entry, Fate, lost, fate_within, entries_by, entries_from, AreSettled, sizes_in, too_small, small_of, Calls, Follows, CallAsks, lost_number, StandsIn, flat_map-append, some, some-injective, get_elem?, ClassSpec, context_of, fitting_class, kept_class, ClassRest, ClassesRested, AskedBy, AskInOrder, entries_between, length-take-le, take-append-drop}
 use Rattle.history_spec.proofs.ContextLemmas.{each_claim, its_call}
 use Rattle.history_spec.proofs.FollowsLemmas.{kept_asks}
 use Rattle.history_spec.proofs.PlaceLemmas.{stands_left, stands_right, stands_taken, at_right}
 use Rattle.history_spec.proofs.RestLemmas.{in_parts}
-use Rattle.std.proofs.lemmas.List.{length-take-le, take-append-drop}
 
 -- the classes that are too small are those whose sizes are
 small_in : (bytes : ℕ) (classes : List ClassSpec)

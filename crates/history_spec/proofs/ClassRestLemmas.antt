@@ -1,6 +1,5 @@
 -- Which contexts go without a buffer between two rests.
-use Rattle.history_spec.proofs.Names.{◌≡◌, ℕ, zero, suc, ◌+◌, ◌<◌, ◌≤◌, ◌⊎◌, ◌==◌, ◌&&◌, nat_lt, nat_le, if◌then◌else◌, List, [], ◌∷◌, length, refl, inl, inr, arith, length-append, cases_lt, Turn, Entry, Act, Report, Kept, Fate, Parts, claim_of, claims_of, StandsIn, flat_map-append}
-use Rattle.history_spec.specs.ClassRests.{context_of, fitting_class, kept_class, needing, missing_in, ClassRest, claimed_at, free_at, ClassesRested, entries_between, AskInOrder, from_class, greatest, too_many}
+use Rattle.history_spec.proofs.Names.{◌≡◌, ℕ, zero, suc, ◌+◌, ◌<◌, ◌≤◌, ◌⊎◌, ◌==◌, ◌&&◌, nat_lt, nat_le, if◌then◌else◌, List, [], ◌∷◌, length, refl, inl, inr, arith, length-append, cases_lt, Turn, Entry, Act, Report, Kept, Fate, Parts, claim_of, claims_of, StandsIn, flat_map-append, context_of, fitting_class, kept_class, needing, missing_in, ClassRest, claimed_at, free_at, ClassesRested, entries_between, AskInOrder, from_class, greatest, too_many}
 use Rattle.history_spec.proofs.RestLemmas.{in_parts}
 
 -- ---- sums over classes

@@ -1,7 +1,6 @@
 -- A small run: two callers on a report ring of two places, with one class of one buffer. Caller 0 reports twice with
 -- context, and finds a buffer once. Caller 1 finds no place.
-use Rattle.history_spec.proofs.Names.{◌≡◌, ℕ, zero, suc, ◌≤◌, List, [], ◌∷◌, length, Some, None, refl, arith, Turn, entries_of, Parts, class_of, Act, Report, Kept, Missing, Entry, AreDecided, all_losses, Fate, lost, accepted, FatesFrom, end_from, Calls, Follows, class_at, entries_by, IsItsLine, IsMerge, sizes_in, StandsIn, entries_from, AreLegalContexts, IsSettledLog, AreAllDecided, some, some-injective, rules, get_elem?, AllByRecursion}
-use Rattle.history_spec.specs.Names.{Carried}
+use Rattle.history_spec.proofs.Names.{◌≡◌, ℕ, zero, suc, ◌≤◌, List, [], ◌∷◌, length, Some, None, refl, arith, Turn, entries_of, Parts, class_of, Act, Report, Kept, Missing, Entry, AreDecided, all_losses, Fate, lost, accepted, FatesFrom, end_from, Calls, Follows, class_at, entries_by, IsItsLine, IsMerge, sizes_in, StandsIn, entries_from, AreLegalContexts, IsSettledLog, AreAllDecided, some, some-injective, rules, get_elem?, AllByRecursion, Carried}
 use Rattle.history_spec.specs.Rounds.{Asked, reports, Round, lines_of}
 use Rattle.history_spec.proofs.ContextLemmas.{legal_contexts}
 use Rattle.history_spec.proofs.DecidedLemmas.{are_merged}

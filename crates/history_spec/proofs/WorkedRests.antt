@@ -1,7 +1,6 @@
 -- Two histories over one event buffer: caller 0 reports in the first round, caller 1 in the second. Both are merges, and
 -- no run gives either. What is said of the rest after the first round's turn excludes them.
-use Rattle.history_spec.proofs.Names.{ℕ, zero, suc, List, [], ◌∷◌, None, refl, arith, rules, Turn, Report, Entry, Fate, lost, accepted, AreDecided, AreMerged, all_losses, once_below, Rest, IsSettledAt, SeesAll}
-use Rattle.history_spec.specs.Names.{Absent}
+use Rattle.history_spec.proofs.Names.{ℕ, zero, suc, List, [], ◌∷◌, None, refl, arith, rules, Turn, Report, Entry, Fate, lost, accepted, AreDecided, AreMerged, all_losses, once_below, Rest, IsSettledAt, SeesAll, Absent}
 use Rattle.history_spec.proofs.DecidedLemmas.{are_merged}
 use Rattle.history_spec.proofs.WorkedMerge.{turn, all_decided}
 

@@ -1,10 +1,6 @@
 -- The messages of a sender.
-use Rattle.std.proofs.Common.{◌≡◌, ◌<◌, ◌≤◌, List, length, refl, arith, length-append}
+use Rattle.message_sender.proofs.Names.{◌≡◌, ◌<◌, ◌≤◌, List, length, refl, arith, length-append, Parts, event_at, plain_event, spelling, Item, message_of, SenderParts, most_message, source_of, source_at, message_by, Stands}
 use Rattle.std.proofs.lemmas.List.{get_or-map, length-map}
-use Rattle.ids_config.specs.Parts.{Parts, event_at, plain_event}
-use Rattle.ids_frame.specs.{spelling}
-use Rattle.chain_spec.specs.{Item, message_of}
-use Rattle.message_sender.specs.{SenderParts, most_message, source_of, source_at, message_by, Stands}
 
 -- a message has no more bytes than its context data let it
 pub message_is_short : (sender : SenderParts) (item : Item) → length (spelling (message_by sender item)) ≤ most_message item.context

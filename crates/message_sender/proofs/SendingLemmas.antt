@@ -1,14 +1,10 @@
 -- One candidate more.
-use Rattle.std.proofs.Common.{◌≡◌, ℕ, ◌+◌, ◌<◌, Bool, true, false, Some, List, [], ◌∷◌, length, map, if◌then◌else◌, refl, sym, ap, ◌∙◌, arith, append_assoc}
+use Rattle.message_sender.proofs.Names.{◌≡◌, ℕ, ◌+◌, ◌<◌, Bool, true, false, Some, List, [], ◌∷◌, length, map, if◌then◌else◌, refl, sym, ap, ◌∙◌, arith, append_assoc, Parts, event_at, is_given, MessageParts, spelling, candidates, is_out, qualified_fate, Item, Candidate, weighed, message_of, EndBy, SenderParts, source_at, message_by, with_held, lets_out, after_answer, out_after, Start, IsSending, answered_fate}
 use Rattle.ids_types.specs.Output.{Output, has_sent}
-use Rattle.ids_config.specs.Parts.{Parts, event_at, is_given}
-use Rattle.ids_frame.specs.{MessageParts, spelling}
 use Rattle.limits.specs.declared.admit.Admit.{Admit}
 use Rattle.limits.specs.Limiting.{Stands as LimitsStand, answer_to}
 use Rattle.limits.specs.Meters.{Meters}
-use Rattle.chain_spec.specs.{candidates, is_out, qualified_fate, Item, Candidate, weighed, message_of, EndBy}
 use Rattle.chain_spec.proofs.CoverLemmas.{end_of_some}
-use Rattle.message_sender.specs.{SenderParts, source_at, message_by, with_held, lets_out, after_answer, out_after, Start, IsSending, answered_fate}
 use Rattle.message_sender.proofs.MessageLemmas.{knows_source, knows_message}
 
 -- candidates end by a tick by which the items end

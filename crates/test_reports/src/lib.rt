@@ -10,12 +10,8 @@ mod api;
 #[cfg(test)]
 mod calls;
 #[cfg(test)]
-mod closing;
-#[cfg(test)]
 mod queue;
-#[cfg(test)]
-mod reporting;
 #[cfg(test)]
 mod steps;
 #[cfg(test)]
-mod turning;
+mod tables;

@@ -4,7 +4,7 @@
 //! manager over the filter chain of the configuration, and to its passes. `turn TICK` answers the journal of the turn, with a bar for each
 //! line feed, how many messages it sent, and their bytes; `close TICK` adds the totals. `rest` is the call of this
 //! name. `tell` with `turns`, `passes`, `late CLASS`, `rests` or `memory` answers what the manager shows: rests and
-//! records with their number first. All other steps are calls of a pass (`calls.rt`).
+//! records with their number first. `#` is a note. All other steps are calls of a pass (`calls.rt`).
 ghost use Rattle.test_reports.specs.Running.{IsRunning};
 
 use crate::calls::{call, number, word};
@@ -46,24 +46,20 @@ struct Run<C> {
 }
 
 impl<C: ParcelChain<CtxBuf>> Run<C> {
-    // The first of these lines whose step has another answer.
-    fn first_unlike(
-        &mut self,
-        alloc: Global,
-        steps: &'static str,
-        told: &mut Vec<u8>,
-    ) -> Result<Option<&'static str>, NoMemory>
+    // Fails with the first of these lines whose step has another answer.
+    fn each_holds(&mut self, alloc: Global, steps: &'static str) -> Result<(), Fail>
         requires { IsRunning C.events C.kept self.old.classes self.old.made }
     {
+        let mut told = Vec::new(alloc);
         for line in steps.lines() {
             let (step, wanted) = line.split_once(" => ").unwrap_or((line, ""));
             told.clear();
-            self.answer(alloc, step, told)?;
+            self.answer(alloc, step, &mut told)?;
             if told.as_slice() != wanted.as_bytes() {
-                return Ok(Some(line));
+                return Err(Fail::new(line));
             }
         }
-        Ok(None)
+        Ok(())
     }
 
     // Makes a step, and tells its answer.
@@ -76,6 +72,7 @@ impl<C: ParcelChain<CtxBuf>> Run<C> {
             "close" => self.close(alloc, number(step, 1), told),
             "rest" => self.rest(told),
             "tell" => self.tell(alloc, step, told),
+            "#" => Ok(()),
             _ => self.call(step, told),
         }
     }
@@ -210,12 +207,8 @@ fn tell_fault(told: &mut Vec<u8>, fault: TurnFault) -> Result<(), NoMemory> {
     Ok(told.extend_from_slice(text.as_bytes())?)
 }
 
-// The first of these lines whose step has another answer of a manager of this configuration.
-fn first_unlike(
-    alloc: Global,
-    config: &Config,
-    steps: &'static str,
-) -> Result<Option<&'static str>, NoMemory> {
+// Fails with the first of these lines whose step has another answer of a manager of this configuration.
+fn all_hold(alloc: Global, config: &Config, steps: &'static str) -> Result<(), Fail> {
     let chain = EventChain::make(alloc, config)?;
     let log = LastTurn {
         history: History::make(alloc, 0, 0, 0)?,
@@ -224,16 +217,12 @@ fn first_unlike(
         made: make(alloc, config, chain, log)?,
         classes: config.parts().classes.len(),
     };
-    run.first_unlike(alloc, steps, &mut Vec::new(alloc))
+    run.each_holds(alloc, steps)
 }
 
 /// Fails with the first line of the table whose step has another answer.
 pub fn each_step_holds(alloc: Global, table: &'static str) -> Result<(), Fail> {
     let (config, steps) = table.split_once("\n").unwrap_or((table, ""));
     let config = read(alloc, config.as_bytes())?;
-    match first_unlike(alloc, &config, steps) {
-        Ok(None) => Ok(()),
-        Ok(Some(step)) => Err(Fail::new(step)),
-        Err(NoMemory) => Err(Fail::new("no memory")),
-    }
+    all_hold(alloc, &config, steps)
 }

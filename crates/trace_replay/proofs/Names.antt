@@ -26,5 +26,5 @@ pub use Rattle.trace_replay.specs.declared.caller.Caller.{Caller}
 pub use Rattle.trace_replay.specs.declared.gathered.Gathered.{Gathered}
 pub use Rattle.trace_replay.specs.declared.recorder.Recorder.{Recorder}
 pub use denote.Param.Send.{IsSend, IsSync, sendable, whole-keyless, struct_sync, recorded_sync, shr_sync, shr_send, Quiet-if}
-pub use mathlib.Core.Option.{some-injective}
+pub use mathlib.Core.Option.{some-injective, none}
 pub use mir.Syntax.{named, of_param}

@@ -1,7 +1,6 @@
 -- What the rests of a replay tell, and how those that are past stay so.
-use Rattle.trace_replay.proofs.Names.{AllOf, AreAsked, AreMerged, AreSettled, AreTied, AskedBy, Caller, CallerRest, Calls, ClassRest, ClassesRested, Fate, Giver, GoesOn, IsAtRest, IsPast, IsSettled, KeepsReleased, LiesInItsRound, List, Option, Parts, PassMemo, ReleasedMore, ReleasedSeats, Rest, Rested, Round, SeatMemo, SeesRests, Shared, TellsCalls, Turn, WasReleased, [], add-one, all_lost, all_then, ap, append-nil, append_assoc, arith, as_told, asked_by_rest, asks_back, at_last, at_length, at_longer, at_map, below_or, call_of, calls_by, calls_in, calls_of_each, came, cases_lt, ended, entries_before, entries_of, fate_of, fates_in, fates_of, flat_map-append, get_elem?, get_or_past, giver_memo, inl, inr, length, length-append, length-map, lines_before, lines_from, lines_of, loss_is, losses_in, lost, map, map-append, nothing_past, or_at, refl, rests_before, resumed, slice_index_or, some, some-injective, stands_own, subst, suc, sym, take, take-append-le, take-append_seam, take-nil, take_all, there, ticks_before, with_rest, zero, ℕ, ◌*◌, ◌++◌, ◌+◌, ◌-◌, ◌<◌, ◌∙◌, ◌∷◌, ◌≡◌, ◌≤◌, ◌⊎◌}
+use Rattle.trace_replay.proofs.Names.{AllOf, AreAsked, AreMerged, AreSettled, AreTied, AskedBy, Caller, CallerRest, Calls, ClassRest, ClassesRested, Fate, Giver, GoesOn, IsAtRest, IsPast, IsSettled, KeepsReleased, LiesInItsRound, List, Option, Parts, PassMemo, ReleasedMore, ReleasedSeats, Rest, Rested, Round, SeatMemo, SeesRests, Shared, TellsCalls, Turn, WasReleased, [], add-one, all_lost, all_then, ap, append-nil, append_assoc, arith, as_told, asked_by_rest, asks_back, at_last, at_length, at_longer, at_map, below_or, call_of, calls_by, calls_in, calls_of_each, came, cases_lt, ended, entries_before, entries_of, fate_of, fates_in, fates_of, flat_map-append, get_elem?, get_or_past, giver_memo, inl, inr, length, length-append, length-map, lines_before, lines_from, lines_of, loss_is, losses_in, lost, map, map-append, nothing_past, or_at, refl, rests_before, resumed, slice_index_or, some, some-injective, stands_own, subst, suc, sym, take, take-append-le, take-append_seam, take-nil, take_all, there, ticks_before, with_rest, zero, ℕ, ◌*◌, ◌++◌, ◌+◌, ◌-◌, ◌<◌, ◌∙◌, ◌∷◌, ◌≡◌, ◌≤◌, ◌⊎◌, none}
 use Rattle.permit_ring.proofs.LogLemmas.{lost_in as lost_there}
-use mathlib.Core.Option.{none}
 use mathlib.Core.Option as maybe
 
 -- ---- callers

@@ -1,11 +1,10 @@
 -- Which lines of a trace have a form.
-use Rattle.trace_text.proofs.Names.{◌≡◌, ◌⊎◌, map, ℕ, zero, suc, ◌≤◌, List, [], ◌∷◌, length, refl, sym, ap, subst, inl, inr, arith, AllByRecursion, Some, None, option_map, codes, numbers_in, told_in_one, opening_in, trace_forms, trace_told_by, TraceLine, opens, trace_fields}
+use Rattle.trace_text.proofs.Names.{◌≡◌, ◌⊎◌, map, ℕ, zero, suc, ◌≤◌, List, [], ◌∷◌, length, refl, sym, ap, subst, inl, inr, arith, AllByRecursion, Some, None, option_map, codes, numbers_in, told_in_one, opening_in, trace_forms, trace_told_by, TraceLine, opens, trace_fields, capped}
 use Rattle.text_spec.specs.Fields.{a_number, first_as, the}
 use Rattle.text_spec.proofs.ContextsLaws.{lawfuls, numbers_take, the_lawful}
 use Rattle.text_spec.proofs.FieldsLaws.{AreForms, IsReading, IsTold, forms_are}
 use Rattle.text_spec.proofs.FrontLemmas.{bind_some, mapped_some}
 use Rattle.std.specs.Str.Parse.{digits_value}
-use Rattle.text_spec.specs.{capped}
 use Rattle.trace_text.specs.Forms.{IsOpening, HasTraceForm}
 
 -- ---- words that are read

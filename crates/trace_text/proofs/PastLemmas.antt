@@ -1,6 +1,5 @@
 -- What the lines so far of a journal are after some of a history: where they await the rest of it, that has no fault.
-use Rattle.trace_text.proofs.Names.{◌≡◌, ℕ, suc, ◌+◌, ◌<◌, ◌≤◌, ◌^◌, ◌++◌, List, [], ◌∷◌, length, length-append, map, get_or, refl, sym, subst, ◌∙◌, append_assoc, arith, length-set, Ok, AllByRecursion, flat_map, eq-eqb, le-leb, lt-ltb, append-nil, Turn, begun, entries_of, Parts, Entry, Loss, calls_of, KeepUpFrom, LossesFrom, RiseFrom, Past, fault_of, next, pair_of, IsHeld, journal_grammar, Line, begins, enters, loses, turn_told, AreFaultless, common_steps, entries_of-with_entry, flat_map-push}
-use Rattle.ids_types.proofs.HistoryLemmas.{length_with_entry}
+use Rattle.trace_text.proofs.Names.{◌≡◌, ℕ, suc, ◌+◌, ◌<◌, ◌≤◌, ◌^◌, ◌++◌, List, [], ◌∷◌, length, length-append, map, get_or, refl, sym, subst, ◌∙◌, append_assoc, arith, length-set, Ok, AllByRecursion, flat_map, eq-eqb, le-leb, lt-ltb, append-nil, Turn, begun, entries_of, Parts, Entry, Loss, calls_of, KeepUpFrom, LossesFrom, RiseFrom, Past, fault_of, next, pair_of, IsHeld, journal_grammar, Line, begins, enters, loses, turn_told, AreFaultless, common_steps, entries_of-with_entry, flat_map-push, length_with_entry}
 use Rattle.trace_text.proofs.LineLemmas.{Entries, EntryFits, LossFits, TurnFits}
 
 -- the lines so far await these entries of the turn that has begun, and then these turns, which are the rest of all entries

@@ -1,6 +1,5 @@
 -- The text of a trace, one line after another.
-use Rattle.trace_text.proofs.Names.{◌≡◌, ◌≤◌, Traced, AreTicks, trace_in, trace_again, Ok, ℕ, suc, ◌+◌, List, [], ◌∷◌, ◌++◌, length, map, refl, sym, ap, ◌∙◌, append_assoc, arith, decimal, append-nil, map-append, take_all, AllByRecursion, Parts, IsAllowedRound, MayAsk, ended_line, words_of_fields, Asked, Round, asked_fields, calls, callers_told, closes, number_fields, opens, round_told, rounds_told, trace_fields, trace_line_for, line_of, space, flat_map-push, text_of-map, caller_text, lines_text, ticks_text, common_steps}
-use Rattle.text_spec.specs.TraceText.{trace_text}
+use Rattle.trace_text.proofs.Names.{◌≡◌, ◌≤◌, Traced, AreTicks, trace_in, trace_again, Ok, ℕ, suc, ◌+◌, List, [], ◌∷◌, ◌++◌, length, map, refl, sym, ap, ◌∙◌, append_assoc, arith, decimal, append-nil, map-append, take_all, AllByRecursion, Parts, IsAllowedRound, MayAsk, ended_line, words_of_fields, Asked, Round, asked_fields, calls, callers_told, closes, number_fields, opens, round_told, rounds_told, trace_fields, trace_line_for, line_of, space, flat_map-push, text_of-map, caller_text, lines_text, ticks_text, common_steps, trace_text}
 
 -- ---- the line that opens a round
 

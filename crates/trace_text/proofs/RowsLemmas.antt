@@ -1,7 +1,6 @@
 -- A row more among those of a caller, and bytes more after those of all lines.
-use Rattle.trace_text.proofs.Names.{◌≡◌, ℕ, ◌<◌, ◌≤◌, List, [], ◌∷◌, ◌++◌, length, map, set, get_or, refl, ap, ap₂, ◌∙◌, subst, sym, arith, Vec, get_or-map, length-append, length-map, map-append, map-set, all_append, AllByRecursion, Asked, reports, callers_asked, row_asked, range_of_front, All-from_recursion, All-weaker, recursion_from_All, all_set}
+use Rattle.trace_text.proofs.Names.{◌≡◌, ℕ, ◌<◌, ◌≤◌, List, [], ◌∷◌, ◌++◌, length, map, set, get_or, refl, ap, ap₂, ◌∙◌, subst, sym, arith, Vec, get_or-map, length-append, length-map, map-append, map-set, all_append, AllByRecursion, Asked, reports, callers_asked, row_asked, range_of_front, All-from_recursion, All-weaker, recursion_from_All, all_set, AreWithin, IsRowWithin}
 use Rattle.std.specs.declared.alloc.Global.{Global}
-use Rattle.trace_text.specs.Lines.{AreWithin, IsRowWithin}
 use Rattle.trace_text.specs.declared.rows.Row.{Row}
 use Rattle.trace_text.specs.declared.rows.Row.TheVariants as rows
 

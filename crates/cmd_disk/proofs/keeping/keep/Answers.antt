@@ -1,5 +1,4 @@
-use Rattle.cmd_steps.proofs.Names.{keep_files_of, plain_stop}
-use Rattle.cmd_disk.proofs.Names.{Recorded, gives, keep, keeps, no_call, reading_ends, reading_of, recorded_in, refl, stops_early}
+use Rattle.cmd_disk.proofs.Names.{Recorded, gives, keep, keeps, no_call, reading_ends, reading_of, recorded_in, refl, stops_early, keep_files_of, plain_stop}
 use Rattle.cmd_steps.proofs.MadeLemmas.{work_said}
 use Rattle.cmd_disk.proofs.EndLemmas.{left_behind}
 use Rattle.cmd_disk.proofs.KeepLemmas.{came, kept_in_part, leaves_own, plain_kept, unread_end}

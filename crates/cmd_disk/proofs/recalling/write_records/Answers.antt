@@ -1,6 +1,4 @@
-use Rattle.cmd_disk.proofs.Names.{Bor, List, plain_stop, stop_of_write, recalls, refl, work_done, work_unwritten, ℕ, EndsAs, IfErr, StandsInPart, left_with, arith, take_all, recall, written_end}
-use Rattle.cmd_spec.specs.Keeping.{recall_work}
-use Rattle.cmd_steps.proofs.Names.{codes, number_text, length, memory_text, rules, ◌≡◌}
+use Rattle.cmd_disk.proofs.Names.{Bor, List, plain_stop, stop_of_write, recalls, refl, work_done, work_unwritten, ℕ, EndsAs, IfErr, StandsInPart, left_with, arith, take_all, recall, written_end, recall_work, codes, number_text, length, memory_text, rules, ◌≡◌}
 use Rattle.cmd_disk.proofs.KeepLemmas.{recall_came}
 use Rattle.cmd_disk.proofs.recalling.write_records.Goals as goal
 

@@ -1,5 +1,4 @@
-use Rattle.cmd_disk.proofs.Names.{plain_end, ended_others}
-use Rattle.cmd_steps.proofs.Names.{ap, disk_of, keep, keep_files_of, pair_of, recall}
+use Rattle.cmd_disk.proofs.Names.{plain_end, ended_others, ap, disk_of, keep, keep_files_of, pair_of, recall}
 use Rattle.cmd_disk.proofs.EndLemmas.{told_end}
 use Rattle.cmd_disk.proofs.run.run_keep.Goals as goal
 

@@ -1,5 +1,4 @@
-use Rattle.std.proofs.Common.{◌≡◌, ◌+◌, drop}
-use Rattle.filter_chain.specs.Turning.{bytes_in}
+use Rattle.filter_chain.proofs.Names.{◌≡◌, ◌+◌, drop, bytes_in}
 use Rattle.filter_chain.proofs.logging.context_bytes.Given as goal
 
 -- the bytes so far are those of all entries but the others

@@ -1,6 +1,4 @@
-use Rattle.std.proofs.Common.{◌≡◌, ◌∷◌, ◌++◌, [], take}
-use Rattle.ids_types.specs.Turns.{room_after}
-use Rattle.filter_chain.specs.Turning.{bytes_in, turn_by}
+use Rattle.filter_chain.proofs.Names.{◌≡◌, ◌∷◌, ◌++◌, [], take, room_after, bytes_in, turn_by}
 use Rattle.filter_chain.proofs.logging.record_turn.Given as goal
 
 -- the first entries are added

@@ -1,5 +1,4 @@
-use Rattle.std.proofs.Common.{◌≡◌, map, take}
-use Rattle.filter_gate.specs.Gate.{fresh_row}
+use Rattle.filter_gate.proofs.Names.{◌≡◌, map, take, fresh_row}
 use Rattle.filter_gate.proofs.gate_state.fresh_rows.Given as goal
 
 -- the rows so far are those of the events so far

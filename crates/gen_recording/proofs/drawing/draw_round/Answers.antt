@@ -1,5 +1,4 @@
-use Rattle.gen_recording.proofs.Names.{refl, arith, lines_by}
-use Rattle.text_spec.proofs.TraceFacts.{with_last-push}
+use Rattle.gen_recording.proofs.Names.{refl, arith, lines_by, with_last-push}
 use Rattle.gen_recording.proofs.DrawLemmas.{caller_more}
 use Rattle.gen_recording.proofs.drawing.draw_round.Goals as goal
 

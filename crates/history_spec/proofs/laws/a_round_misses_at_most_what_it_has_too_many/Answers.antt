@@ -1,6 +1,5 @@
 -- At most so many go without by `most`, and so none; just so many by `just`.
-use Rattle.history_spec.proofs.Names.{length, arith}
-use Rattle.history_spec.specs.ClassRests.{too_many}
+use Rattle.history_spec.proofs.Names.{length, arith, too_many}
 use Rattle.history_spec.proofs.ClassRestLemmas.{greatest_le, most, just}
 use Rattle.history_spec.proofs.laws.a_round_misses_at_most_what_it_has_too_many.Goals as goal
 

@@ -1,5 +1,4 @@
-use Rattle.event_chain.proofs.Names.{◌≤◌, ◌≡◌, ◌+◌, length, option_map, most_message, refl, sym, subst, ap, arith, rules, length_permutation, common_steps, closes_due, closes, gated, item_at, told_by, stands_with_closing, HasEvent, Windowed}
-use Rattle.std.proofs.lemmas.List.Sorted.{sum_by-IsPermutation}
+use Rattle.event_chain.proofs.Names.{◌≤◌, ◌≡◌, ◌+◌, length, option_map, most_message, refl, sym, subst, ap, arith, rules, length_permutation, common_steps, closes_due, closes, gated, item_at, told_by, stands_with_closing, HasEvent, Windowed, sum_by-IsPermutation}
 use Rattle.event_chain.proofs.CallLemmas.{behind_call, behind_none}
 use Rattle.event_chain.proofs.FateLemmas.{told_given}
 use Rattle.event_chain.proofs.RoomLemmas.{given_short, message_room}

@@ -1,9 +1,4 @@
-use Rattle.std.proofs.Common.{◌<◌, List, [], map, sym, ap, subst, ◌∙◌}
-use Rattle.std.specs.List.{All}
-use Rattle.ids_config.specs.Parts.{Event, Parts}
-use Rattle.ids_config.specs.Valid.{IsValid}
-use Rattle.filter_gate.specs.Gate.{fresh_row}
-use Rattle.filter_gate.specs.Stands.{Stands}
+use Rattle.filter_gate.proofs.Names.{◌<◌, List, [], map, sym, ap, subst, ◌∙◌, All, Event, Parts, IsValid, fresh_row, Stands}
 use Rattle.filter_gate.proofs.MakeLemmas.{all_positive, stands_before}
 use Rattle.filter_gate.proofs.gate_state.GateState.make.Goals as goal
 

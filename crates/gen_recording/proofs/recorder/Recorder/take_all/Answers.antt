@@ -1,6 +1,5 @@
-use Rattle.gen_recording.proofs.Names.{◌<◌, ◌≤◌, [], length, reverse-append, refl, arith, on_ok_weaker, take_all, take_more, last_tick, begun_round}
+use Rattle.gen_recording.proofs.Names.{◌<◌, ◌≤◌, [], length, reverse-append, refl, arith, on_ok_weaker, take_all, take_more, last_tick, begun_round, last_tick-push}
 use Rattle.text_spec.proofs.JournalFacts.{flat_map-push}
-use Rattle.text_spec.proofs.TraceFacts.{last_tick-push}
 use Rattle.gen_recording.proofs.RecordingLemmas.{next_keeps}
 use Rattle.gen_recording.proofs.recorder.Recorder.take_all.Goals as goal
 

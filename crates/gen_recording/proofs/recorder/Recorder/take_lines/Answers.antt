@@ -1,5 +1,4 @@
-use Rattle.gen_recording.proofs.Names.{◌<◌, length, ◌∙◌, append_assoc, arith, changes, common_steps, lines_at, round_at, call_by}
-use Rattle.std.proofs.lemmas.List.{map_more}
+use Rattle.gen_recording.proofs.Names.{◌<◌, length, ◌∙◌, append_assoc, arith, changes, common_steps, lines_at, round_at, call_by, map_more}
 use Rattle.gen_recording.proofs.RecordingLemmas.{items_are}
 use Rattle.gen_recording.proofs.recorder.Recorder.take_lines.Goals as goal
 

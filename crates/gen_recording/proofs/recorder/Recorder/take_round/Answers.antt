@@ -1,5 +1,4 @@
-use Rattle.gen_recording.proofs.Names.{◌≡◌, add-one, ◌<◌, ◌≤◌, [], length, take_all, reverse-append, ◌∙◌, arith, on_ok_weaker, round_at, idle}
-use Rattle.std.proofs.lemmas.List.{drop_more, map_more}
+use Rattle.gen_recording.proofs.Names.{◌≡◌, add-one, ◌<◌, ◌≤◌, [], length, take_all, reverse-append, ◌∙◌, arith, on_ok_weaker, round_at, idle, drop_more, map_more}
 use Rattle.gen_recording.proofs.RecordingLemmas.{callers_few, callers_more, items_are}
 use Rattle.gen_recording.proofs.recorder.Recorder.take_round.Goals as goal
 

@@ -1,8 +1,5 @@
-use Rattle.std.proofs.Common.{◌≡◌, ◌∷◌, List, Some, subst}
-use Rattle.ids_config.specs.Parts.{Parts}
-use Rattle.chain_spec.specs.{qualified_fate, Item, EndBy}
+use Rattle.message_sender.proofs.Names.{◌≡◌, ◌∷◌, List, Some, subst, Parts, qualified_fate, Item, EndBy, Start, IsSending, answered_fate}
 use Rattle.message_sender.specs.ReportView.{item_of}
-use Rattle.message_sender.specs.{Start, IsSending, answered_fate}
 use Rattle.message_sender.specs.SenderView.{sender_of}
 use Rattle.message_sender.proofs.SendingLemmas.{settled}
 use Rattle.message_sender.proofs.sender.Sender.offer.Goals.{After-settle}

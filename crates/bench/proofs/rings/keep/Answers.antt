@@ -1,7 +1,7 @@
 use Rattle.std.proofs.Common.{subst, arith}
 use Rattle.buffer_classes.proofs.GiveLemmas.{admitted_more}
 use Rattle.report_api.specs.{AdmitsAct}
-use Rattle.bench.proofs.reports.keep.Goals as goal
+use Rattle.bench.proofs.rings.keep.Goals as goal
 
 pub returns-in_ok-push-in-Report-default-default-default-Kept : goal.returns-in_ok-push-in-Report-default-default-default-Kept
 returns-in_ok-push-in-Report-default-default-default-Kept c =

@@ -1,5 +1,5 @@
 use Rattle.report_queue.proofs.MakingLemmas.{all_unused}
-use Rattle.bench.proofs.bench.Bench.queue.Goals as goal
+use Rattle.bench.proofs.times.Bench.queue.Goals as goal
 
 pub measure-requires-clause-callers : goal.measure-requires-clause-callers
 measure-requires-clause-callers g c κs within i d low =

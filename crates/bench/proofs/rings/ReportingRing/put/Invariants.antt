@@ -1,5 +1,5 @@
 use Rattle.report_api.specs.Passes.{IsPassOf}
-use Rattle.bench.proofs.reports.ReportingRing.put.Given as goal
+use Rattle.bench.proofs.rings.ReportingRing.put.Given as goal
 
 abbrev pub invariant-loop : goal.invariant-loop
 invariant-loop l = IsPassOf l.self.shared l.pass
