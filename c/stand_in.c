@@ -2,12 +2,8 @@
    and events of a configuration, answers as idsm_c.h says, and sends each report as a message. It has no filter but the
    modes, no limit, no internal event and no event memory. A class has any number of context data buffers, so a context is
    missing only if no class is large enough. A report that finds another call at work with its manager, and this
-   one does not end soon, is lost. It does not
-   judge a configuration, and nothing of it is proved. */
-#include <inttypes.h>
-#include <stdio.h>
-#include <string.h>
-
+   one does not end soon, is lost. It does not judge a configuration, and nothing of it is proved. It calls nothing of a C
+   library, so c/bare runs over it too. */
 #include "inner.h"
 
 enum { MOST_EVENTS = 256, MOST_CLASSES = 4, MOST_RING = 1024, MOST_CONTEXT = 1024, MOST_LINE = 72 + 2 * MOST_CONTEXT };
@@ -163,10 +159,17 @@ static int next_element(struct reader *in, int first)
 static const char *const mode_names[] = {"OFF", "BRIEF", "DETAILED", "BRIEF_BYPASSING_FILTERS",
                                          "DETAILED_BYPASSING_FILTERS"};
 
+static int is_same(const char *one, const char *other)
+{
+    while (*one != 0 && *one == *other)
+        one++, other++;
+    return *one == *other;
+}
+
 static uint8_t mode_of(const char *text)
 {
     for (uint8_t i = 0; i < 5; i++)
-        if (strcmp(text, mode_names[i]) == 0)
+        if (is_same(text, mode_names[i]))
             return i;
     return IDSM_MODE_DETAILED;
 }
@@ -177,13 +180,13 @@ static void read_event(struct reader *in, struct event *event)
     event->mode = IDSM_MODE_DETAILED;
     wants(in, '{');
     for (int first = 1; next_member(in, first, name, sizeof name); first = 0) {
-        if (strcmp(name, "id") == 0)
+        if (is_same(name, "id"))
             event->id = read_number(in, 65535);
-        else if (strcmp(name, "sensor") == 0)
+        else if (is_same(name, "sensor"))
             event->sensor = read_number(in, 63);
-        else if (strcmp(name, "version") == 0)
+        else if (is_same(name, "version"))
             event->version = read_number(in, 255);
-        else if (strcmp(name, "mode") == 0) {
+        else if (is_same(name, "mode")) {
             read_text(in, text, sizeof text);
             event->mode = mode_of(text);
         } else
@@ -196,7 +199,7 @@ static void read_class(struct reader *in, uint32_t *size)
     char name[32];
     wants(in, '{');
     for (int first = 1; next_member(in, first, name, sizeof name); first = 0) {
-        if (strcmp(name, "size") == 0)
+        if (is_same(name, "size"))
             *size = read_number(in, MOST_CONTEXT);
         else
             skip(in);
@@ -230,25 +233,25 @@ static int read_config(const uint8_t *bytes, size_t count, struct config *config
     config->ring = 64;
     wants(&in, '{');
     for (int first = 1; next_member(&in, first, name, sizeof name); first = 0) {
-        if (strcmp(name, "form") == 0)
+        if (is_same(name, "form"))
             config->form = read_number(&in, 2);
-        else if (strcmp(name, "profile") == 0)
+        else if (is_same(name, "profile"))
             config->profile = read_number(&in, 2);
-        else if (strcmp(name, "instance") == 0)
+        else if (is_same(name, "instance"))
             config->instance = read_number(&in, 1023);
-        else if (strcmp(name, "callers") == 0)
+        else if (is_same(name, "callers"))
             config->callers = read_number(&in, IDSM_MOST_CALLERS);
-        else if (strcmp(name, "ring") == 0)
+        else if (is_same(name, "ring"))
             config->ring = read_number(&in, MOST_RING);
-        else if (strcmp(name, "state") == 0)
+        else if (is_same(name, "state"))
             config->state = read_number(&in, 255);
-        else if (strcmp(name, "internal") == 0 && next(&in) == '{')
+        else if (is_same(name, "internal") && next(&in) == '{')
             read_internal(&in, config);
-        else if (strcmp(name, "events") == 0) {
+        else if (is_same(name, "events")) {
             wants(&in, '[');
             for (int one = 1; next_element(&in, one) && has_room(&in, config->events, MOST_EVENTS); one = 0)
                 read_event(&in, &config->event[config->events++]);
-        } else if (strcmp(name, "classes") == 0) {
+        } else if (is_same(name, "classes")) {
             wants(&in, '[');
             for (int one = 1; next_element(&in, one) && has_room(&in, config->classes, MOST_CLASSES); one = 0)
                 read_class(&in, &config->size[config->classes++]);
@@ -339,7 +342,9 @@ static uint32_t take_losses(struct unit *unit)
 static void *zeros(size_t size)
 {
     idsm_block block = rattle_alloc(size, sizeof(uint64_t));
-    return block.ok ? memset(block.at, 0, size) : NULL;
+    for (size_t i = 0; block.ok && i < size; i++)
+        ((uint8_t *)block.at)[i] = 0;
+    return block.ok ? block.at : NULL;
 }
 
 static struct part *new_part(struct unit *unit, uint8_t turns, uint32_t number)
@@ -436,6 +441,12 @@ static int is_spent(struct part *caller)
     return caller->calls >= (uint64_t)1 << 40 || ++caller->calls == 0;
 }
 
+static void copy(uint8_t *to, const uint8_t *from, size_t bytes)
+{
+    for (size_t i = 0; i < bytes; i++)
+        to[i] = from[i];
+}
+
 /* What a report is about, and when. */
 struct told {
     uint64_t stamp;
@@ -452,7 +463,7 @@ static void put_context(struct unit *unit, struct entry *entry, const uint8_t *c
     if (bytes > 0 && !entry->is_missing) {
         entry->bytes = (uint16_t)bytes;
         entry->claim = unit->claims[entry->class_index]++;
-        memcpy(entry->context, context, bytes);
+        copy(entry->context, context, bytes);
     }
 }
 
@@ -587,33 +598,75 @@ static uint8_t *write_message(uint8_t *at, const struct config *config, const st
         at = write_number(at, 0x80000000u + bytes, 4);
     else if (bytes > 0)
         at = write_number(at, bytes, 1);
-    memcpy(at, entry->context, bytes);
+    copy(at, entry->context, bytes);
     return at + bytes;
 }
 
-/* The line of an entry for a journal (docs/FORMATS.md). */
-static char *write_line(char *at, const struct entry *entry)
+/* The lines of a journal (docs/FORMATS.md). Each function returns where its text ends. */
+
+static char *put(char *at, const char *text)
 {
-    at += sprintf(at, "%c %u %" PRIu64, entry->is_mode ? 'C' : 'R', entry->caller, entry->call);
-    if (entry->event == MOST_EVENTS)
-        return at + sprintf(at, " S %u\n", entry->mode);
-    if (entry->is_mode)
-        return at + sprintf(at, " M %u %s\n", entry->event, mode_names[entry->mode]);
-    at += sprintf(at, " %u %u ", entry->event, entry->count);
-    at += entry->has_stamp ? sprintf(at, "%016" PRIx64 " ", entry->stamp) : sprintf(at, "- ");
-    if (entry->bytes > 0)
-        at += sprintf(at, "%u:%" PRIu64 ":", entry->class_index, entry->claim);
-    for (uint16_t i = 0; i < entry->bytes; i++)
-        at += sprintf(at, "%02x", entry->context[i]);
-    return at + sprintf(at, "%s\n", entry->bytes > 0 ? "" : entry->is_missing ? "!" : "-");
+    while (*text != 0)
+        *at++ = *text++;
+    return at;
 }
 
-static void write_lines(struct unit *unit, const idsm_sent *sent)
+static char *put_decimal(char *at, const char *before, uint64_t number)
 {
-    char *at = unit->lines;
-    at += sprintf(at, "T %" PRIu64 " %" PRIu64 " %" PRIu64 " 0\n", unit->status.tick, sent->lost_events,
-                  sent->lost_contexts);
-    for (uint32_t i = 0; i < unit->waiting; i++)
+    at = number > 9 ? put_decimal(at, before, number / 10) : put(at, before);
+    *at++ = (char)('0' + number % 10);
+    return at;
+}
+
+static char *put_hex(char *at, uint64_t number, int digits)
+{
+    for (int i = digits - 1; i >= 0; i--)
+        *at++ = "0123456789abcdef"[number >> (4 * i) & 15];
+    return at;
+}
+
+static char *put_context_data(char *at, const struct entry *entry)
+{
+    if (entry->bytes == 0)
+        return put(at, entry->is_missing ? " !" : " -");
+    at = put_decimal(at, " ", entry->class_index);
+    at = put(put_decimal(at, ":", entry->claim), ":");
+    for (uint16_t i = 0; i < entry->bytes; i++)
+        at = put_hex(at, entry->context[i], 2);
+    return at;
+}
+
+/* The line of an entry. */
+static char *write_line(char *at, const struct entry *entry)
+{
+    at = put_decimal(at, entry->is_mode ? "C " : "R ", entry->caller);
+    at = put_decimal(at, " ", entry->call);
+    if (entry->event == MOST_EVENTS)
+        at = put_decimal(at, " S ", entry->mode);
+    else if (entry->is_mode)
+        at = put(put(put_decimal(at, " M ", entry->event), " "), mode_names[entry->mode]);
+    else {
+        at = put_decimal(put_decimal(at, " ", entry->event), " ", entry->count);
+        at = entry->has_stamp ? put_hex(put(at, " "), entry->stamp, 16) : put(at, " -");
+        at = put_context_data(at, entry);
+    }
+    return put(at, "\n");
+}
+
+/* The line of a turn. */
+static char *write_turn(char *at, uint64_t tick, const idsm_sent *sent)
+{
+    at = put_decimal(put_decimal(at, "T ", tick), " ", sent->lost_events);
+    return put(put_decimal(at, " ", sent->lost_contexts), " 0\n");
+}
+
+/* The lines of a turn that takes so many entries, if a journal is asked for. */
+static void write_lines(struct unit *unit, uint32_t entries, const idsm_sent *sent)
+{
+    if (unit->lines == NULL)
+        return;
+    char *at = write_turn(unit->lines, unit->status.tick, sent);
+    for (uint32_t i = 0; i < entries; i++)
         at = write_line(at, &unit->entry[i]);
     unit->length = (size_t)(at - unit->lines);
 }
@@ -636,8 +689,7 @@ static void take_entries(struct unit *unit, uint8_t *buffer, idsm_sent *sent)
     sent->entries = unit->waiting;
     sent->lost_events = take_losses(unit);
     sent->lost_contexts = unit->lost_contexts;
-    if (unit->lines != NULL)
-        write_lines(unit, sent);
+    write_lines(unit, unit->waiting, sent);
     unit->waiting = unit->lost_contexts = 0;
 }
 
@@ -645,9 +697,7 @@ static void take_entries(struct unit *unit, uint8_t *buffer, idsm_sent *sent)
 static void take_nothing(struct unit *unit, idsm_sent *sent)
 {
     sent->lost_events = take_losses(unit);
-    if (unit->lines != NULL)
-        unit->length = (size_t)sprintf(unit->lines, "T %" PRIu64 " %" PRIu64 " 0 0\n", unit->status.tick,
-                                       sent->lost_events);
+    write_lines(unit, 0, sent);
 }
 
 uint8_t idsm_raw_main(idsm_word *manager, uint64_t tick, uint8_t *buffer, size_t bytes, idsm_sent *sent)
