@@ -3,7 +3,7 @@
    Only an init takes memory. What it frees on its way, as a list that grew, is used again by what comes later: each block
    is put into the first free one that is long enough. So where a block is follows from what was asked for before it, not
    from how long the arena is, and an arena that is long enough stays so if it grows. A manager and callers of an arena are
-   never freed block by block: the arena is given back as a whole (c/idsm_c.c). So a block of an arena is freed only while
+   never freed block by block: the arena is given back as a whole (c/closing.c). So a block of an arena is freed only while
    that arena is filled, by who fills it. */
 #include "inner.h"
 

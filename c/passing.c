@@ -1,4 +1,4 @@
-/* What c/idsm_c.c hands to the proved library and takes from it, over a library that only notes its arguments: each
+/* What the C of the library hands to the proved library and takes from it, over a library that only notes its arguments: each
    argument and each field arrives unchanged, no pointer is NULL, each number of an answer is passed on, and a call on a
    handle that works already is answered. */
 #include <stdio.h>

@@ -1,14 +1,22 @@
 /* Two calls beside each other, step by step: one makes some of its atomic steps, then the other one makes some, then the first
    ends, then the other one, for each two numbers. Reports, stops, turns and closes meet so. Each report that was accepted is
    sent once and is in the totals, none is under way when a stop has come through, and none is answered that its own handle is
-   busy. It has c/idsm_c.c with steps of its own, over c/stand_in.c, and IdsM_Cfg.h of unit.json. */
+   busy. It has the files of the library that take handles, with steps of its own, over c/stand_in.c, and IdsM_Cfg.h of
+   unit.json. */
 #define _XOPEN_SOURCE 700 /* for makecontext */
 static void between(void);
 #define IDSM_LOAD(at) (between(), __atomic_load_n((at), __ATOMIC_SEQ_CST))
 #define IDSM_STORE(at, value) (between(), __atomic_store_n((at), (value), __ATOMIC_RELEASE))
 #define IDSM_SWAP(at, was, value) \
     (between(), __atomic_compare_exchange_n((at), (was), (value), 0, __ATOMIC_SEQ_CST, __ATOMIC_SEQ_CST))
-#include "idsm_c.c"
+#include "handles.c"
+#include "pointers.c"
+#include "making.c"
+#include "reports.c"
+#include "reading.c"
+#include "messages.c"
+#include "turning.c"
+#include "closing.c"
 
 #include "IdsM_Cfg.h"
 
