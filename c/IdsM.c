@@ -4,6 +4,8 @@
 #include "IdsM_Binding.h"
 #include "IdsM_Cfg.h"
 
+#include <stdbool.h>
+
 #ifndef IDSM_CFG_BUFFER
 #error "IdsM.c: IdsM_Cfg.h has no numbers of the library: build it by c/build, and make the header anew by tools/c_config"
 #endif
@@ -30,8 +32,8 @@ static uint8_t messages[IDSM_CFG_BUFFER];
 
 #if IDSM_ARENA
 /* The memory of callers and manager, and what aligns it to 16. */
-enum { ALIGNED = 16 };
-static uint8_t arena[IDSM_CFG_ARENA + (IDSM_JOURNAL ? IDSM_CFG_ARENA_JOURNAL : 0U) + ALIGNED - 1U];
+#define ALIGNED 16U
+static uint8_t arena[IDSM_CFG_ARENA + ((IDSM_JOURNAL != 0) ? IDSM_CFG_ARENA_JOURNAL : 0U) + ALIGNED - 1U];
 #endif
 
 #ifndef IDSM_STAND_IN
@@ -40,12 +42,12 @@ extern const char idsm_is_proved;
 #endif
 
 /* Whether the library is the one that this file was compiled for. */
-static int is_own_library(void)
+static bool is_own_library(void)
 {
 #ifdef IDSM_STAND_IN
     return idsm_abi() == IDSM_ABI;
 #else
-    return (idsm_abi() == IDSM_ABI) && (idsm_is_proved != 0);
+    return (idsm_abi() == IDSM_ABI) && (idsm_is_proved != '\0');
 #endif
 }
 
@@ -54,7 +56,7 @@ static IdsM_ReturnType make_manager(void)
     static const idsm_options options = {IDSM_CFG_BUFFER, IDSM_JOURNAL};
 #if IDSM_ARENA
     const size_t skipped = (ALIGNED - ((uintptr_t)arena % ALIGNED)) % ALIGNED;
-    return idsm_init_in(&IdsM_Config, &options, &arena[skipped], sizeof arena - skipped, IdsM_Unit.callers,
+    return idsm_init_in(&IdsM_Config, &options, &arena[skipped], (sizeof arena) - skipped, IdsM_Unit.callers,
                         IDSM_CFG_CALLERS, &IdsM_Unit.manager, &IdsM_Unit.fault);
 #else
     return idsm_init(&IdsM_Config, &options, IdsM_Unit.callers, IDSM_CFG_CALLERS, &IdsM_Unit.manager,

@@ -16,7 +16,7 @@ static void leave(const idsm_manager *manager, idsm_word *words, size_t count)
 }
 
 /* Gives a handle back, as closed if what it had was freed. */
-static void give_or_close(void **at, const idsm_word *own, int is_freed)
+static void give_or_close(void **at, idsm_word *own, bool is_freed)
 {
     if (is_freed) {
         idsm_own_give_closed(at);
@@ -36,9 +36,9 @@ static void mark_callers(idsm_manager *manager, uint32_t stopped)
 }
 
 /* Whether no call of a caller is under way. */
-static int are_all_idle(const idsm_manager *manager)
+static bool are_all_idle(idsm_manager *manager)
 {
-    int idle = 1;
+    bool idle = true;
     size_t i;
     for (i = 0U; i < manager->count; i++) {
         idle = idle && !idsm_own_is_in_call(&manager->callers[i].at);
@@ -80,7 +80,7 @@ static idsm_answer take_callers(idsm_manager *manager, idsm_word *words)
 }
 
 /* Gives the callers of a manager back, or frees them. */
-static void leave_callers(idsm_manager *manager, idsm_word *words, int frees)
+static void leave_callers(idsm_manager *manager, idsm_word *words, bool frees)
 {
     size_t i;
     if (frees) {
@@ -138,11 +138,11 @@ static idsm_answer end_turns(idsm_manager *manager, idsm_word *own, uint64_t tic
 }
 
 /* Ends the turns, and then gives the manager back, or frees it. */
-static idsm_answer end(idsm_manager *manager, uint64_t tick, uint8_t *buffer, size_t bytes, const idsm_route *out,
-                       idsm_sent *sent, idsm_totals *totals, int frees)
+static idsm_answer end_manager(idsm_manager *manager, uint64_t tick, uint8_t *buffer, size_t bytes, const idsm_route *out,
+                       idsm_sent *sent, idsm_totals *totals, bool frees)
 {
     idsm_word own;
-    int is_freed;
+    bool is_freed;
     idsm_answer answer = idsm_own_take_with_callers(manager, &own);
     if (answer != IDSM_DONE) {
         return answer;
@@ -158,50 +158,50 @@ static idsm_answer end(idsm_manager *manager, uint64_t tick, uint8_t *buffer, si
 
 /* The same, with what it told at nothing first. */
 static idsm_answer end_telling(idsm_manager *manager, uint64_t tick, uint8_t *buffer, size_t bytes, idsm_sent *sent,
-                               idsm_totals *totals, int frees)
+                               idsm_totals *totals, bool frees)
 {
     if ((sent == NULL) || (totals == NULL) || idsm_own_is_no_memory(buffer, bytes)) {
         return IDSM_NULL;
     }
     (void)idsm_own_clear(sent, sizeof *sent);
     (void)idsm_own_clear(totals, sizeof *totals);
-    return end(manager, tick, buffer, bytes, &idsm_own_nowhere, sent, totals, frees);
+    return end_manager(manager, tick, buffer, bytes, &idsm_own_nowhere, sent, totals, frees);
 }
 
 /* The same, with its messages handed out. */
 static idsm_answer end_sending(idsm_manager *manager, uint64_t tick, uint8_t *buffer, size_t bytes,
-                               const idsm_route *out, idsm_sent *sent, idsm_totals *totals, int frees)
+                               const idsm_route *out, idsm_sent *sent, idsm_totals *totals, bool frees)
 {
     if ((sent == NULL) || (totals == NULL) || (out->send == NULL) || idsm_own_is_no_memory(buffer, bytes)) {
         return IDSM_NULL;
     }
-    return end(manager, tick, buffer, bytes, out, sent, totals, frees);
+    return end_manager(manager, tick, buffer, bytes, out, sent, totals, frees);
 }
 
 idsm_answer idsm_last(idsm_manager *manager, uint64_t tick, uint8_t *buffer, size_t bytes, idsm_sent *sent,
                       idsm_totals *totals)
 {
-    return end_telling(manager, tick, buffer, bytes, sent, totals, 0);
+    return end_telling(manager, tick, buffer, bytes, sent, totals, false);
 }
 
 idsm_answer idsm_last_send(idsm_manager *manager, uint64_t tick, uint8_t *buffer, size_t bytes, idsm_send *send,
                            void *to, idsm_sent *sent, idsm_totals *totals)
 {
     const idsm_route out = {send, to};
-    return end_sending(manager, tick, buffer, bytes, &out, sent, totals, 0);
+    return end_sending(manager, tick, buffer, bytes, &out, sent, totals, false);
 }
 
 idsm_answer idsm_close(idsm_manager *manager, uint64_t tick, uint8_t *buffer, size_t bytes, idsm_sent *sent,
                        idsm_totals *totals)
 {
-    return end_telling(manager, tick, buffer, bytes, sent, totals, 1);
+    return end_telling(manager, tick, buffer, bytes, sent, totals, true);
 }
 
 idsm_answer idsm_close_send(idsm_manager *manager, uint64_t tick, uint8_t *buffer, size_t bytes, idsm_send *send,
                             void *to, idsm_sent *sent, idsm_totals *totals)
 {
     const idsm_route out = {send, to};
-    return end_sending(manager, tick, buffer, bytes, &out, sent, totals, 1);
+    return end_sending(manager, tick, buffer, bytes, &out, sent, totals, true);
 }
 
 idsm_answer idsm_free(idsm_manager *manager)

@@ -4,9 +4,9 @@
 
 /* What a handle has while a call works with it, and after its manager was closed: the addresses of nothing else. They
    are of one object, since a compiler may make one object of two constants. */
-static const char marks[2] = {0, 0};
-#define IN_CALL ((void *)(uintptr_t)&marks[0])
-#define CLOSED ((void *)(uintptr_t)&marks[1])
+static char marks[2];
+#define IN_CALL ((void *)&marks[0])
+#define CLOSED ((void *)&marks[1])
 
 idsm_answer idsm_own_take(void **at, idsm_word *own)
 {
@@ -29,7 +29,8 @@ idsm_answer idsm_own_take(void **at, idsm_word *own)
 idsm_answer idsm_own_take_unset(void **at)
 {
     void *has = NULL;
-    if (IDSM_SWAP(at, &has, IN_CALL)) {
+    const bool is_taken = IDSM_SWAP(at, &has, IN_CALL);
+    if (is_taken) {
         return IDSM_DONE;
     }
     if (has == IN_CALL) {
@@ -48,13 +49,13 @@ void idsm_own_give_closed(void **at)
     idsm_own_give(at, CLOSED);
 }
 
-idsm_answer idsm_own_give_after(void **at, const idsm_word *own, idsm_answer answer)
+idsm_answer idsm_own_give_after(void **at, idsm_word *own, idsm_answer answer)
 {
     idsm_own_give(at, own->at);
     return answer;
 }
 
-int idsm_own_is_in_call(void **at)
+bool idsm_own_is_in_call(void **at)
 {
     return IDSM_LOAD(at) == IN_CALL;
 }

@@ -19,10 +19,10 @@ idsm_answer idsm_own_take_with_callers(idsm_manager *manager, idsm_word *own);
    it back for good, and the third after a call of the proved library, whose answer it passes on. */
 void idsm_own_give(void **at, void *has);
 void idsm_own_give_closed(void **at);
-idsm_answer idsm_own_give_after(void **at, const idsm_word *own, idsm_answer answer);
+idsm_answer idsm_own_give_after(void **at, idsm_word *own, idsm_answer answer);
 
 /* Whether a call has the handle in hand. */
-int idsm_own_is_in_call(void **at);
+bool idsm_own_is_in_call(void **at);
 
 /* How far a manager is: its callers may call, they are stopped, its last turn was made. Beside it in `stopped` is whether it
    is in an arena. Only who has its handle reads and writes it. */
@@ -33,7 +33,7 @@ int idsm_own_is_in_call(void **at);
 uint32_t idsm_own_state_of(const idsm_manager *manager);
 
 /* Whether there is no such memory: bytes at NULL. */
-int idsm_own_is_no_memory(const void *at, size_t bytes);
+bool idsm_own_is_no_memory(const void *at, size_t bytes);
 
 /* What is handed on for bytes: some address, also if there are none. */
 const uint8_t *idsm_own_some(const uint8_t *at);

@@ -4,6 +4,8 @@
 
 #include "idsm_c.h"
 
+#include <stdbool.h>
+
 /* The three atomic steps, on a pointer or a number: a load and a compare-and-swap that are sequentially consistent, and a store
    that releases what was written before it. The swap has the arguments and the result of __atomic_compare_exchange_n. Another
    compiler than GCC and Clang defines its own by -D or by a header that is included first. */
@@ -19,7 +21,7 @@
 #endif
 
 /* What a block of memory is aligned to. */
-enum { IDSM_OWN_ALIGNED = 16 };
+#define IDSM_OWN_ALIGNED 16U
 
 /* The calls of a heap. */
 typedef struct idsm_heap {
@@ -92,7 +94,7 @@ uint8_t idsm_raw_close(idsm_word *handle);
 
 /* The calls that the proved library makes for memory. `at` is never NULL, and counts if `ok` is 1. */
 typedef struct idsm_block {
-    _Bool ok;
+    bool ok;
     void *at;
 } idsm_block;
 

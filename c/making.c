@@ -1,10 +1,6 @@
 /* The inits: callers and manager of a configuration are made, or none of them. */
 #include "handles.h"
 
-/* What is handed on for no classes and for no events. */
-static const idsm_class no_class;
-static const idsm_event no_event;
-
 void idsm_own_free_all(idsm_word *words, size_t count)
 {
     size_t i;
@@ -71,7 +67,7 @@ idsm_answer idsm_own_init(const idsm_making *making, const idsm_options *options
                           idsm_caller *callers, size_t count, idsm_manager *manager, idsm_fault *fault)
 {
     static const idsm_options no_options = {0U, 0U};
-    idsm_word words[IDSM_MOST_CALLERS] = {{NULL}};
+    idsm_word words[IDSM_MOST_CALLERS] = {0};
     idsm_word own = {NULL};
     idsm_answer answer = idsm_own_clear(fault, sizeof *fault);
     size_t i;
@@ -90,7 +86,10 @@ idsm_answer idsm_own_init(const idsm_making *making, const idsm_options *options
         manager->callers = callers;
         manager->count = count;
         manager->sum = making->sum;
-        manager->stopped = (source->heap == NULL) ? IDSM_OWN_IN_ARENA : 0U;
+        manager->stopped = IDSM_OWN_RUNNING;
+        if (source->heap == NULL) {
+            manager->stopped |= IDSM_OWN_IN_ARENA;
+        }
     }
     for (i = 0U; i < count; i++) {
         idsm_own_give(&callers[i].at, words[i].at);
@@ -102,6 +101,8 @@ idsm_answer idsm_own_init(const idsm_making *making, const idsm_options *options
 static idsm_answer fill_of_tables(const void *from, uint8_t journal, idsm_word *callers, size_t count,
                                   idsm_word *manager, idsm_fault *fault)
 {
+    static const idsm_class no_class;
+    static const idsm_event no_event;
     const idsm_config *config = (const idsm_config *)from;
     const idsm_class *classes = (config->classes == NULL) ? &no_class : config->classes;
     const idsm_event *events = (config->events == NULL) ? &no_event : config->events;
@@ -128,7 +129,7 @@ idsm_answer idsm_init_in(const idsm_config *config, const idsm_options *options,
     if (arena == NULL) {
         return IDSM_NULL;
     }
-    if (((uintptr_t)arena % (uintptr_t)IDSM_OWN_ALIGNED) != 0U) {
+    if (((uintptr_t)(uint8_t *)arena % IDSM_OWN_ALIGNED) != 0U) {
         return IDSM_OUT_OF_RANGE;
     }
     return idsm_own_init(&making, options, &source, callers, count, manager, fault);

@@ -6,9 +6,12 @@
 static size_t message_length(const uint8_t *at, size_t bytes)
 {
     const uint8_t version = (uint8_t)(at[0] >> 4U);
-    const size_t length = ((at[0] & 2U) != 0U) ? 16U : 8U;
+    size_t length = 8U;
     if (((version != 1U) && (version != 2U)) || ((at[0] & 15U) > 3U)) {
         return 0U;
+    }
+    if ((at[0] & 2U) != 0U) {
+        length = 16U;
     }
     if ((at[0] & 1U) == 0U) {
         return length;

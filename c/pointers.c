@@ -4,7 +4,7 @@
 /* What is handed on for no bytes. */
 static uint8_t no_byte;
 
-int idsm_own_is_no_memory(const void *at, size_t bytes)
+bool idsm_own_is_no_memory(const void *at, size_t bytes)
 {
     return (at == NULL) && (bytes > 0U);
 }
