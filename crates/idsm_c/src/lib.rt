@@ -1,5 +1,5 @@
 //! The C interface of the intrusion detection system manager: handles and exported functions, over which
-//! `c/idsm_c.c` has the calls of `c/idsm_c.h`.
+//! the files of `c/` have the calls of `c/idsm_c.h`.
 //!
 //! Layer 11, the library in use. Over `idsm_api`, whose roles the handles own; built as a static library, on which no
 //! crate may stand.
