@@ -7,7 +7,7 @@ use Rattle.ids_types.specs.declared.entry.Act.TheVariants.{Report}
 use Rattle.ids_types.specs.declared.entry.Carried.TheVariants.{Missing}
 use Rattle.ids_types.specs.declared.entry.Entry.{Entry}
 use Rattle.ids_config.specs.Parts.{Parts, event_at, internal_of}
-use Rattle.chain_spec.specs.{account_of, events_in, Fate, at_mode, at_block, at_nth, in_window, at_threshold, unsent, at_rate, at_traffic, let_out, Ending, ending_at, is_stored, heads_of, Moment, act_moment, closings, head_moment, moments, with_all}
+use Rattle.chain_spec.specs.{account_of, events_in, fate_name, Ending, ending_at, is_stored, heads_of, Moment, act_moment, closings, head_moment, moments, with_all}
 use Rattle.chain_spec.specs.declared.account.Account.{Account}
 use Rattle.text_spec.specs.{Told, begins, enters, loses, line_for, absent, space, text_of}
 
@@ -17,18 +17,6 @@ field word = space ∷ word
 
 -- ---- what became of an item
 
--- the word for a fate: the member of the configuration that ended the item's way, or what else did
-abbrev pub fate_word : Fate → List ℕ
-fate_word at_mode = codes "mode"
-fate_word at_block = codes "block"
-fate_word at_nth = codes "nth"
-fate_word in_window = codes "aggregate"
-fate_word at_threshold = codes "threshold"
-fate_word unsent = codes "unsent"
-fate_word at_rate = codes "rate"
-fate_word at_traffic = codes "traffic"
-fate_word let_out = codes "sent"
-
 -- the word for whether an item is stored
 abbrev pub stored_word : Bool → List ℕ
 stored_word true = codes "stored"
@@ -36,7 +24,7 @@ stored_word false = absent
 
 -- ` FATE STORED`
 abbrev pub fate_fields : Parts → Ending → List ℕ
-fate_fields config ending = field (fate_word ending.fate) ++ field (stored_word (is_stored config ending))
+fate_fields config ending = field (fate_name ending.fate) ++ field (stored_word (is_stored config ending))
 
 -- the same where something ended
 abbrev pub ended_fields : Parts → Option Ending → List ℕ

@@ -3,19 +3,17 @@
 ghost use Rattle.std.specs.Prelude.{◌≡◌, ◌<◌, ◌^◌, ℕ, map, reverse, length, IfOk, not, ◌==◌, ◌&&◌, if◌then◌else◌, ◌+◌, ◌++◌, ◌∷◌, [], List, slice_index_or, OnOk, decimal, codes};
 ghost use Rattle.ids_config.specs.Parts.{event_at};
 ghost use Rattle.chain_spec.specs.{nothing, with_one, with_fate, with_stored, is_stored, events_in, moments};
-ghost use Rattle.event_chain.specs.Fates.{ending_of, fate_of};
+ghost use Rattle.event_chain.specs.Fates.{ending_of};
 ghost use Rattle.chain_endings.specs.{AreOf, IsAtMost, kept_at, CountsMissing, account_fields, account_line, field, is_missing, told_in};
 ghost use Rattle.ids_types.specs.declared.entry.Entry.{Entry};
 ghost use Rattle.ids_types.specs.{entries_of, plain_entry};
 ghost use Rattle.text_spec.specs.Words.{line_feed, text_of};
 
 use crate::lines::push_numbers;
-use chain_spec::Account;
-use event_chain::{Ending, Fate};
-use filter_gate::Cause;
+use chain_spec::{Account, Fate};
+use event_chain::Ending;
 use ids_config::{ConfigParts, EventParts};
 use ids_types::{Act, Carried, Entry, EntryWalk, EventIndex, History, NoMemory, Plain};
-use limits::Admit;
 use std::alloc::Global;
 use text_spec::push_field;
 
@@ -44,7 +42,7 @@ fn nothing() -> Account
 fn add(account: &mut Account, ending: &Ending, stored: bool)
     requires { (n : ℕ) × (n < 2 ^ 63) × IsAtMost n n n account.old }
     ensures { account.new
-        ≡ with_stored stored (with_fate (fate_of ending.now.fate) (with_one ending.now.by_window account.old)) }
+        ≡ with_stored stored (with_fate ending.now.fate (with_one ending.now.by_window account.old)) }
 {
     add_one(account, ending.by_window);
     add_fate(account, ending.fate);
@@ -70,21 +68,21 @@ fn add_one(account: &mut Account, by_window: bool)
 /// Adds one of this fate.
 fn add_fate(account: &mut Account, fate: Fate)
     requires { (n k : ℕ) × (n < 2 ^ 63) × IsAtMost k n n account.old }
-    ensures { account.new ≡ with_fate (fate_of fate) account.old }
+    ensures { account.new ≡ with_fate fate account.old }
 {
     match fate {
-        Fate::Dropped(Cause::Mode) => account.mode += 1,
-        Fate::Dropped(Cause::Block) => account.block += 1,
-        Fate::Dropped(Cause::Nth) => account.nth += 1,
-        Fate::Joined => {
+        Fate::AtMode => account.mode += 1,
+        Fate::AtBlock => account.block += 1,
+        Fate::AtNth => account.nth += 1,
+        Fate::InWindow => {
             account.aggregate += 1;
             account.waiting += 1;
         }
-        Fate::Below => account.threshold += 1,
-        Fate::Qualified(None) => account.unsent += 1,
-        Fate::Qualified(Some(Admit::Rate)) => account.rate += 1,
-        Fate::Qualified(Some(Admit::Traffic)) => account.traffic += 1,
-        Fate::Qualified(Some(Admit::Sent)) => account.sent += 1,
+        Fate::AtThreshold => account.threshold += 1,
+        Fate::AtSend => account.unsent += 1,
+        Fate::AtRate => account.rate += 1,
+        Fate::AtTraffic => account.traffic += 1,
+        Fate::Sent => account.sent += 1,
     }
 }
 
@@ -92,10 +90,7 @@ fn add_fate(account: &mut Account, fate: Fate)
 pub(crate) fn is_stored(parts: &ConfigParts, ending: &Ending) -> bool
     ensures { result ≡ is_stored parts.now (ending_of ending.now) }
 {
-    match ending.fate {
-        Fate::Qualified(_) => stores(parts, ending.event),
-        _ => false,
-    }
+    ending.fate.is_qualified() && stores(parts, ending.event)
 }
 
 /// Whether the event memory has room, and stores the event.
@@ -129,7 +124,7 @@ fn add_to(accounts: &mut Vec<Account>, ending: &Ending, stored: bool)
     requires { (n : ℕ) × (n < 2 ^ 63) × ((k : ℕ) → k < length accounts.old.items → IsAtMost n n n (kept_at accounts.old.items k)) }
     ensures len { length accounts.new.items ≡ length accounts.old.items }
     ensures each { (k : ℕ) → k < length accounts.old.items → kept_at accounts.new.items k
-        ≡ (if ending.now.event.0 == k then with_stored stored (with_fate (fate_of ending.now.fate)
+        ≡ (if ending.now.event.0 == k then with_stored stored (with_fate ending.now.fate
         (with_one ending.now.by_window (kept_at accounts.old.items k))) else kept_at accounts.old.items k) }
 {
     let event = usize::from(ending.event.0);

@@ -1,17 +1,15 @@
 //! The words and lines that are told beside those of a journal.
 
 ghost use Rattle.std.specs.Prelude.{◌≡◌, ◌++◌, ◌∷◌, [], OnOk, codes, decimal};
-ghost use Rattle.event_chain.specs.Fates.{ending_of, fate_of};
+ghost use Rattle.event_chain.specs.Fates.{ending_of};
 ghost use Rattle.text_spec.specs.Words.{line_feed};
-ghost use Rattle.chain_endings.specs.ExplainedText.{Pushes, account_fields, fate_fields, fate_word, field, given_line, letter_of, named, stored_word};
+ghost use Rattle.chain_endings.specs.ExplainedText.{Pushes, account_fields, fate_fields, field, given_line, letter_of, named, stored_word};
 
 use crate::account::is_stored;
 use chain_spec::Account;
-use event_chain::{Ending, Fate};
-use filter_gate::Cause;
+use event_chain::Ending;
 use ids_config::ConfigParts;
 use ids_types::NoMemory;
-use limits::Admit;
 use text_spec::push_field;
 
 /// Appends `W EVENT COUNT FATE STORED`, or with `I`, as a line.
@@ -43,7 +41,7 @@ pub(crate) fn push_fate(
 ) -> Result<(), NoMemory>
     ensures { OnOk result (out.new.items ≡ out.old.items ++ fate_fields parts.now (ending_of ending.now)) }
 {
-    push_word(out, fate_word(ending.fate))?;
+    push_word(out, ending.fate.name().as_bytes())?;
     push_word(out, stored_word(is_stored(parts, ending)))
 }
 
@@ -53,22 +51,6 @@ fn push_word(out: &mut Vec<u8>, word: &[u8]) -> Result<(), NoMemory>
 {
     out.push(b' ')?;
     Ok(out.extend_from_slice(word)?)
-}
-
-fn fate_word(fate: Fate) -> &'static [u8]
-    ensures { result.now ≡ fate_word (fate_of fate) }
-{
-    match fate {
-        Fate::Dropped(Cause::Mode) => b"mode",
-        Fate::Dropped(Cause::Block) => b"block",
-        Fate::Dropped(Cause::Nth) => b"nth",
-        Fate::Joined => b"aggregate",
-        Fate::Below => b"threshold",
-        Fate::Qualified(None) => b"unsent",
-        Fate::Qualified(Some(Admit::Rate)) => b"rate",
-        Fate::Qualified(Some(Admit::Traffic)) => b"traffic",
-        Fate::Qualified(Some(Admit::Sent)) => b"sent",
-    }
 }
 
 fn stored_word(stored: bool) -> &'static [u8]

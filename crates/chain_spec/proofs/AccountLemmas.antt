@@ -1,5 +1,5 @@
 -- The numbers of an event's account are the sizes of the stages of the chain.
-use Rattle.chain_spec.proofs.Names.{◌≡◌, ℕ, ◌+◌, ◌≤◌, not, Bool, true, List, [], ◌∷◌, ◌++◌, length, filter, Option, Some, None, is_some, option_to_list, if◌then◌else◌, refl, arith, map, counted, Parts, event_at, aggregated, arrivals, sampled, sampled_at, ◌==◌, bypassing_at, Item, is_of, Moment, added, Account, account_of, number_of, tally, Fate, unsent, at_rate, at_traffic, let_out, endings, Ending, is_qualified, qualified, ◌∙◌, nat_tests, after_ending, comers, ending_at, is_stored}
+use Rattle.chain_spec.proofs.Names.{◌≡◌, ℕ, ◌+◌, ◌≤◌, not, Bool, true, List, [], ◌∷◌, ◌++◌, length, filter, Option, Some, None, is_some, option_to_list, if◌then◌else◌, refl, arith, map, counted, Parts, event_at, aggregated, arrivals, sampled, sampled_at, ◌==◌, bypassing_at, Item, is_of, Moment, added, Account, account_of, number_of, tally, Fate, AtSend, AtRate, AtTraffic, Sent, endings, Ending, is_qualified, qualified, ◌∙◌, nat_tests, after_ending, comers, ending_at, is_stored}
 use Rattle.chain_spec.proofs.CourseLemmas.{passed_more, joined_by, joined_more, OnEachWay, moment_holds}
 use Rattle.chain_spec.proofs.EndingsLemmas.{qualified_is}
 use Rattle.chain_spec.proofs.TallyLemmas.{number_told, counts_one}
@@ -36,10 +36,10 @@ module _ (config : Parts) (event : ℕ) where
       → OnEachWay config before event item fate
       (λ b r s g q by_window fate. let ending = Some (record { item = item; by_window = by_window; fate = fate }) in
       Sizes before b r s g q ending × Waits before s g ending)
-  ways before h item unsent is = grind (arith, nat_tests, h)
-  ways before h item at_rate is = grind (arith, nat_tests, h)
-  ways before h item at_traffic is = grind (arith, nat_tests, h)
-  ways before h item let_out is = grind (arith, nat_tests, h)
+  ways before h item AtSend is = grind (arith, nat_tests, h)
+  ways before h item AtRate is = grind (arith, nat_tests, h)
+  ways before h item AtTraffic is = grind (arith, nat_tests, h)
+  ways before h item Sent is = grind (arith, nat_tests, h)
   ways before h item _ is = cc
 
   step : (moment : Moment) (before : List Moment) → Sizes before None None None None None None

@@ -1,5 +1,5 @@
 -- What the stages make of a moment: the ways that an item can go, and where each ends.
-use Rattle.chain_spec.proofs.Names.{◌≡◌, ℕ, Bool, true, false, List, ◌∷◌, ◌++◌, Option, Some, None, is_some, option_to_list, option_and_then, refl, arith, option_or, Parts, event_at, gated_at, aggregated_at, thresholded_at, gated, aggregated, arrival_at, sampled_at, mode_at, item_in, bypassing_at, Item, is_of, Moment, closes, comes, closes_due, where_true, Fate, at_mode, at_block, at_nth, in_window, at_threshold, qualified_fate, Ending, qualified, inl, inr, if◌then◌else◌, eq-eqb, cases_eq, nat_tests, ending_at}
+use Rattle.chain_spec.proofs.Names.{◌≡◌, ℕ, Bool, true, false, List, ◌∷◌, ◌++◌, Option, Some, None, is_some, option_to_list, option_and_then, refl, arith, option_or, Parts, event_at, gated_at, aggregated_at, thresholded_at, gated, aggregated, arrival_at, sampled_at, mode_at, item_in, bypassing_at, Item, is_of, Moment, closes, comes, closes_due, where_true, Fate, AtMode, AtBlock, AtNth, InWindow, AtThreshold, qualified_fate, Ending, qualified, inl, inr, if◌then◌else◌, eq-eqb, cases_eq, nat_tests, ending_at}
 use Rattle.chain_spec.proofs.AggregationLemmas.{given_own}
 use Rattle.chain_spec.proofs.FilterLemmas.{not_filtered}
 use Rattle.chain_spec.proofs.StageLemmas.{cases_Option, added_behind}
@@ -23,17 +23,17 @@ module _ (config : Parts) (before : List Moment) where
   -- what holds on each way that an item can go, where this is its fate once it is qualified: of what bypasses the filters,
   -- arrives of an event, is sampled of it, is after the aggregation filter and is qualified, and of how the way ends
   pub record OnEachWay (event : ℕ) (item : Item) (fate : Fate) (Holds : (b r s g q : Option Item) → (by_window : Bool) → Fate → Type 0) : Type 0 where
-    pub mode : Holds None None None None None false at_mode
-    pub block : Holds None None None None None false at_block
-    pub nth : Holds None (where_true (is_of event item) item) None None None false at_nth
+    pub mode : Holds None None None None None false AtMode
+    pub block : Holds None None None None None false AtBlock
+    pub nth : Holds None (where_true (is_of event item) item) None None None false AtNth
     pub window : is_some (event_at config item.event).aggregate ≡ true
-        → Holds None (where_true (is_of event item) item) (where_true (is_of event item) item) None None false in_window
+        → Holds None (where_true (is_of event item) item) (where_true (is_of event item) item) None None false InWindow
     pub threshold : is_some (event_at config item.event).aggregate ≡ false
-        → Holds None (where_true (is_of event item) item) (where_true (is_of event item) item) (Some item) None false at_threshold
+        → Holds None (where_true (is_of event item) item) (where_true (is_of event item) item) (Some item) None false AtThreshold
     pub through : is_some (event_at config item.event).aggregate ≡ false
         → Holds None (where_true (is_of event item) item) (where_true (is_of event item) item) (Some item) (Some item) false fate
     pub past : Holds (Some item) None None None (Some item) false fate
-    pub given : is_some (event_at config item.event).aggregate ≡ true → Holds None None None (Some item) None true at_threshold
+    pub given : is_some (event_at config item.event).aggregate ≡ true → Holds None None None (Some item) None true AtThreshold
     pub out_of : is_some (event_at config item.event).aggregate ≡ true → Holds None None None (Some item) (Some item) true fate
 
   -- what arrives of an event, and is sampled, is of an item of the event

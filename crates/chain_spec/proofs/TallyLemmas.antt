@@ -1,5 +1,5 @@
 -- What an ending counts in an account.
-use Rattle.chain_spec.proofs.Names.{◌≡◌, ℕ, suc, ◌+◌, not, Bool, List, [], ◌∷◌, length, filter, if◌then◌else◌, arith, Parts, Account, with_one, with_fate, tally, Fate, at_mode, Ending, is_limited, is_message, nothing, with_ending, with_stored}
+use Rattle.chain_spec.proofs.Names.{◌≡◌, ℕ, suc, ◌+◌, not, Bool, List, [], ◌∷◌, length, filter, if◌then◌else◌, arith, Parts, Account, with_one, with_fate, tally, Fate, AtMode, Ending, is_limited, is_message, nothing, with_ending, with_stored}
 
 -- one more, where it is
 abbrev pub one_more : Bool → ℕ → ℕ
@@ -14,7 +14,7 @@ pub record CountsOne (given : Bool) (fate : Fate) (is : Bool) (account now : Acc
 
 pub counts_one : (given : Bool) (fate : Fate) (is : Bool) (account : Account)
     → CountsOne given fate is account (with_stored is (with_fate fate (with_one given account)))
-counts_one given at_mode is account = grind arith
+counts_one given AtMode is account = grind arith
 counts_one given _ is account = grind arith
 
 -- a number that endings of some kind make one more is how many such endings there are

@@ -1,6 +1,6 @@
 -- A history with what became of each of its items, worked out by hand from the filters' rules, so that a wrong
 -- definition does not check.
-use Rattle.chain_spec.proofs.Names.{◌≡◌, ℕ, Bool, true, false, List, [], ◌∷◌, map, reverse, Some, None, refl, Turn, State, SetMode, DetailedBypassing, Off, Parts, plain_event, moments, Account, account_of, Fate, at_mode, at_block, at_nth, in_window, at_threshold, unsent, at_rate, at_traffic, let_out, endings, instance_18, nothing}
+use Rattle.chain_spec.proofs.Names.{◌≡◌, ℕ, Bool, true, false, List, [], ◌∷◌, map, reverse, Some, None, refl, Turn, State, SetMode, DetailedBypassing, Off, Parts, plain_event, moments, Account, account_of, Fate, AtMode, AtBlock, AtNth, InWindow, AtThreshold, AtSend, AtRate, AtTraffic, Sent, endings, instance_18, nothing}
 use Rattle.chain_spec.proofs.WorkedHistories.{door, seen, turn, two_in_1000, three_at_once}
 
 -- every second of event 0, blocked in state 1; event 1 in windows of 10 ticks, from 3 on in 100 ticks; event 2
@@ -38,9 +38,9 @@ told config = reverse (map (λ one. (one.by_window, one.fate)) (endings config (
 record AreWorkedOut : Type 0 where
   -- the window of tick 5 gives 2 at tick 15, too few; that of tick 15 gives 1 at tick 25, which with these is 3, but
   -- two messages left 4 bytes; and then the rate has counted three candidates
-  fates : told four_events ≡ (false, at_nth) ∷ (false, let_out) ∷ (false, at_block) ∷ (false, in_window) ∷ (false, unsent)
-      ∷ (false, at_mode) ∷ (true, at_threshold) ∷ (false, in_window) ∷ (false, let_out) ∷ (true, at_traffic)
-      ∷ (false, at_nth) ∷ (false, at_rate) ∷ (false, in_window) ∷ []
+  fates : told four_events ≡ (false, AtNth) ∷ (false, Sent) ∷ (false, AtBlock) ∷ (false, InWindow) ∷ (false, AtSend)
+      ∷ (false, AtMode) ∷ (true, AtThreshold) ∷ (false, InWindow) ∷ (false, Sent) ∷ (true, AtTraffic)
+      ∷ (false, AtNth) ∷ (false, AtRate) ∷ (false, InWindow) ∷ []
   sampled_and_blocked : account four_events 0 ≡ record nothing { came = 5; block = 1; nth = 2; rate = 1; sent = 1 }
   in_three_windows : account four_events 1 ≡ record nothing { came = 3; closed = 2; aggregate = 3; threshold = 1; traffic = 1; waiting = 1 }
   stored_and_not_sent : account four_events 2 ≡ record nothing { came = 1; unsent = 1; stored = 1 }

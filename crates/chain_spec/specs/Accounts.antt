@@ -6,9 +6,10 @@ use Rattle.ids_config.specs.Parts.{Parts, event_at, is_given}
 use Rattle.ids_config.specs.declared.parts.Aggregate.{Aggregate}
 use Rattle.chain_spec.specs.Calls.{Call, Arrival}
 use Rattle.chain_spec.specs.Closing.{is_open, open_window, windows_in}
-use Rattle.chain_spec.specs.Endings.{Fate, at_mode, at_block, at_nth, in_window, at_threshold, unsent, at_rate, at_traffic, let_out, Ending, endings, is_stored}
+use Rattle.chain_spec.specs.Endings.{Ending, endings, is_stored}
+use Rattle.chain_spec.specs.Fates.{Fate, AtMode, AtBlock, AtNth, InWindow, AtThreshold, AtSend, AtRate, AtTraffic, Sent}
 use Rattle.chain_spec.specs.Filtering.{gated}
-use Rattle.chain_spec.specs.Items.{Item, is_of}
+use Rattle.chain_spec.specs.Items.{Item, is_of, number_of}
 use Rattle.chain_spec.specs.Moments.{Moment, comes}
 use Rattle.chain_spec.specs.Windows.{Window, members}
 use Rattle.chain_spec.specs.declared.account.Account.{Account}
@@ -38,15 +39,15 @@ with_one false account = record account { came = account.came + 1 }
 
 -- with one of this fate more
 abbrev pub with_fate : Fate → Account → Account
-with_fate at_mode account = record account { mode = account.mode + 1 }
-with_fate at_block account = record account { block = account.block + 1 }
-with_fate at_nth account = record account { nth = account.nth + 1 }
-with_fate in_window account = record account { aggregate = account.aggregate + 1; waiting = account.waiting + 1 }
-with_fate at_threshold account = record account { threshold = account.threshold + 1 }
-with_fate unsent account = record account { unsent = account.unsent + 1 }
-with_fate at_rate account = record account { rate = account.rate + 1 }
-with_fate at_traffic account = record account { traffic = account.traffic + 1 }
-with_fate let_out account = record account { sent = account.sent + 1 }
+with_fate AtMode account = record account { mode = account.mode + 1 }
+with_fate AtBlock account = record account { block = account.block + 1 }
+with_fate AtNth account = record account { nth = account.nth + 1 }
+with_fate InWindow account = record account { aggregate = account.aggregate + 1; waiting = account.waiting + 1 }
+with_fate AtThreshold account = record account { threshold = account.threshold + 1 }
+with_fate AtSend account = record account { unsent = account.unsent + 1 }
+with_fate AtRate account = record account { rate = account.rate + 1 }
+with_fate AtTraffic account = record account { traffic = account.traffic + 1 }
+with_fate Sent account = record account { sent = account.sent + 1 }
 
 -- with one more that is stored, where it is
 abbrev pub with_stored : Bool → Account → Account
@@ -81,10 +82,6 @@ comer _ = None
 -- the items that come
 abbrev pub comers : List Moment → List Item
 comers moments = filter_map comer moments
-
--- how many of the items are of an event
-abbrev pub number_of : ℕ → List Item → ℕ
-number_of event items = length (filter (is_of event) items)
 
 -- each item that comes is one of a configured event
 abbrev pub AreConfigured : Parts → List Moment → Type 0

@@ -7,7 +7,7 @@ use Rattle.ids_config.specs.declared.parts.Aggregate.{Aggregate}
 use Rattle.ids_config.specs.declared.parts.Window.{Window as Setting}
 use Rattle.chain_spec.specs.Aggregation.{joined}
 use Rattle.chain_spec.specs.Calls.{Arrival}
-use Rattle.chain_spec.specs.Filtering.{counted}
+use Rattle.chain_spec.specs.Counting.{counted}
 use Rattle.chain_spec.specs.Items.{Item, told_of, item_at}
 use Rattle.chain_spec.specs.Stages.{added, where_true}
 use Rattle.chain_spec.specs.Threshold.{verdict}

@@ -7,7 +7,9 @@ use Rattle.ids_config.specs.Parts.{Parts, event_at}
 use Rattle.ids_types.specs.declared.mode.Mode.{Mode}
 use Rattle.chain_spec.specs.Calls.{closes_due}
 use Rattle.chain_spec.specs.Chain.{candidates}
-use Rattle.chain_spec.specs.Filtering.{aggregated_at, gated, aggregated, qualified, counted}
+use Rattle.chain_spec.specs.Fates.{Fate, AtMode, AtBlock, AtNth, InWindow, AtThreshold, AtSend, AtRate, AtTraffic, Sent, is_qualified}
+use Rattle.chain_spec.specs.Counting.{counted}
+use Rattle.chain_spec.specs.Filtering.{aggregated_at, gated, aggregated, qualified}
 use Rattle.chain_spec.specs.Gate.{mode_at, item_in, is_filtered, is_bypassing, is_blocked, is_nth}
 use Rattle.chain_spec.specs.Items.{Item}
 use Rattle.chain_spec.specs.Limits.{passes_rate, passes_traffic, sent_of}
@@ -16,46 +18,31 @@ use Rattle.chain_spec.specs.Moments.{Moment, comes, closes}
 use Rattle.chain_spec.specs.Stages.{Stage, added}
 use Rattle.chain_spec.specs.Threshold.{verdict}
 
--- ---- fates
-
--- where the way of an item ends: at a filter that drops it, or in an aggregation window; and where it is
--- qualified, because its event is not to be sent, at a limit, or in a message
-pub data Fate : Type 0 where
-  at_mode : Fate
-  at_block : Fate
-  at_nth : Fate
-  in_window : Fate
-  at_threshold : Fate
-  unsent : Fate
-  at_rate : Fate
-  at_traffic : Fate
-  let_out : Fate
-
 -- the fate of a qualified event, where these were qualified before it
 abbrev pub qualified_fate : Parts → List Item → Item → Fate
 qualified_fate config before item =
     let earlier = map (weighed config) (candidates config before) in
     let own = weighed config item in
-    if not (event_at config item.event).send then unsent
-    else if not (passes_rate config.rate earlier own) then at_rate
-    else if not (passes_traffic config.traffic (sent_of config.rate config.traffic earlier) own) then at_traffic
-    else let_out
+    if not (event_at config item.event).send then AtSend
+    else if not (passes_rate config.rate earlier own) then AtRate
+    else if not (passes_traffic config.traffic (sent_of config.rate config.traffic earlier) own) then AtTraffic
+    else Sent
 
 -- the fate of an item that is after the aggregation filter, after these moments
 abbrev pub aggregated_fate : Parts → List Moment → Item → Fate
 aggregated_fate config before item =
     if not (verdict (event_at config item.event).threshold (counted item) (map counted (aggregated config before)))
-    then at_threshold
+    then AtThreshold
     else qualified_fate config (qualified config before) item
 
 -- the fate of an item that comes after these moments, as this mode leaves it
 abbrev pub coming_fate : Parts → List Moment → Mode → Item → Fate
 coming_fate config before mode item =
     if is_bypassing mode then qualified_fate config (qualified config before) item
-    else if not (is_filtered mode) then at_mode
-    else if is_blocked config item.event before then at_block
-    else if not (is_nth config item.event before) then at_nth
-    else if is_some (event_at config item.event).aggregate then in_window
+    else if not (is_filtered mode) then AtMode
+    else if is_blocked config item.event before then AtBlock
+    else if not (is_nth config item.event before) then AtNth
+    else if is_some (event_at config item.event).aggregate then InWindow
     else aggregated_fate config before item
 
 -- ---- endings
@@ -87,25 +74,6 @@ ending_at config before _ = None
 -- the endings of moments
 abbrev pub endings : Parts → List Moment → List Ending
 endings config moments = added (ending_at config) moments
-
--- the item is qualified: it passed all filters, or bypassed them
-abbrev pub is_qualified : Fate → Bool
-is_qualified unsent = true
-is_qualified at_rate = true
-is_qualified at_traffic = true
-is_qualified let_out = true
-is_qualified _ = false
-
--- a limit holds the item back
-abbrev pub is_limited : Fate → Bool
-is_limited at_rate = true
-is_limited at_traffic = true
-is_limited _ = false
-
--- the item is sent
-abbrev pub is_message : Fate → Bool
-is_message let_out = true
-is_message _ = false
 
 -- the item is stored in the event memory, which has room for a record
 abbrev pub is_stored : Parts → Ending → Bool

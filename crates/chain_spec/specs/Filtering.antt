@@ -7,7 +7,7 @@ use Rattle.ids_config.specs.declared.parts.Aggregate.{Aggregate}
 use Rattle.ids_config.specs.Parts.{Parts, event_at}
 use Rattle.chain_spec.specs.Calls.{Call, closes_due, arrives}
 use Rattle.chain_spec.specs.Closing.{closing_item}
-use Rattle.chain_spec.specs.Counting.{Occurrence}
+use Rattle.chain_spec.specs.Counting.{counted}
 use Rattle.chain_spec.specs.Gate.{sampled_at, bypassing_at}
 use Rattle.chain_spec.specs.Items.{Item, told_of, item_at}
 use Rattle.chain_spec.specs.Moments.{Moment, closes, comes}
@@ -34,10 +34,6 @@ abbrev pub aggregated_at : Parts → Stage (Call (List ℕ)) Item
 aggregated_at config before (closes_due tick event) =
     option_map (item_at tick) (closing_item (event_at config event).aggregate event tick before)
 aggregated_at config before (arrives tick told) = alone (event_at config told.event.0).aggregate (item_at tick told)
-
--- what the threshold filter sees of an item
-abbrev pub counted : Item → Occurrence
-counted item = record { event = item.event; tick = item.tick; count = item.count }
 
 -- thresholded: the item, where it passes the threshold of its event
 abbrev pub thresholded_at : Parts → Stage Item Item

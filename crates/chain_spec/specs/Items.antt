@@ -1,6 +1,6 @@
 -- Items: security events on their way through the filters.
 -- Public standard: AUTOSAR SWS Intrusion Detection System Manager, filter chain.
-use Rattle.std.specs.Prelude.{ℕ, ◌==◌, List, Bool, Option, Some, None, option_map}
+use Rattle.std.specs.Prelude.{ℕ, ◌==◌, List, Bool, length, filter, Option, Some, None, option_map}
 use Rattle.ids_types.specs.declared.entry.Carried.{Carried}
 use Rattle.ids_types.specs.declared.entry.Carried.TheVariants.{Absent, Kept, Missing}
 use Rattle.ids_types.specs.declared.event.Qualified.{Qualified}
@@ -18,6 +18,10 @@ pub record Item : Type 0 where
 -- the item is one of this event
 abbrev pub is_of : ℕ → Item → Bool
 is_of event item = item.event == event
+
+-- how many of the items are of an event
+abbrev pub number_of : ℕ → List Item → ℕ
+number_of event items = length (filter (is_of event) items)
 
 -- what an item tells beside its tick
 abbrev pub told_of : Item → Qualified (List ℕ)

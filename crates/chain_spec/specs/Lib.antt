@@ -6,6 +6,7 @@ pub mod Chain
 pub mod Closing
 pub mod Counting
 pub mod Endings
+pub mod Fates
 pub mod Filtering
 pub mod Gate
 pub mod Growth
@@ -22,19 +23,20 @@ pub mod Stages
 pub mod Storing
 pub mod Threshold
 pub mod Windows
-pub use Rattle.chain_spec.specs.Accounts.{nothing, with_one, with_fate, with_stored, with_ending, after_ending, tally, account_of, comers, number_of, AreConfigured, events_in, limited_events_in, TellsWindows}
+pub use Rattle.chain_spec.specs.Accounts.{nothing, with_one, with_fate, with_stored, with_ending, after_ending, tally, account_of, comers, AreConfigured, events_in, limited_events_in, TellsWindows}
 pub use Rattle.chain_spec.specs.Aggregation.{first_kept, last_kept, kept_of, joined}
 pub use Rattle.chain_spec.specs.ByEvent.{tick_of, every, first_from, arrival_of, closed_item, closed_items, reaching}
 pub use Rattle.chain_spec.specs.Calls.{arrives, Call, closes_due, Arrival, call_tick, arrival_by, arrived, closing_by, closing_ticks}
 pub use Rattle.chain_spec.specs.Chain.{candidates, is_out, sent_at, held_at, sent, held, qualified_of, messages, message_count, ends, held_count, handed_on, handed, IsCausal}
 pub use Rattle.chain_spec.specs.Closing.{windows_in, is_due, is_open, newest_where, open_window, due_item, closing_item}
-pub use Rattle.chain_spec.specs.Counting.{Occurrence, among}
-pub use Rattle.chain_spec.specs.Endings.{Fate, at_mode, at_block, at_nth, in_window, at_threshold, unsent, at_rate, at_traffic, let_out, qualified_fate, aggregated_fate, coming_fate, Ending, coming, given, ending_at, endings, is_qualified, is_limited, is_message, is_stored, items_with, items_stored}
-pub use Rattle.chain_spec.specs.Filtering.{arrival, gated_at, alone, aggregated_at, counted, thresholded_at, gated, aggregated, thresholded, filtered_at, qualified_at, qualified}
+pub use Rattle.chain_spec.specs.Counting.{Occurrence, among, counted}
+pub use Rattle.chain_spec.specs.Endings.{qualified_fate, aggregated_fate, coming_fate, Ending, coming, given, ending_at, endings, is_stored, items_with, items_stored}
+pub use Rattle.chain_spec.specs.Fates.{Fate, AtMode, AtBlock, AtNth, InWindow, AtThreshold, AtSend, AtRate, AtTraffic, Sent, place_of, all_steps, fate_name, is_qualified, is_limited, is_message}
+pub use Rattle.chain_spec.specs.Filtering.{arrival, gated_at, alone, aggregated_at, thresholded_at, gated, aggregated, thresholded, filtered_at, qualified_at, qualified}
 pub use Rattle.chain_spec.specs.Gate.{is_filtered, is_bypassing, is_detailed, mode_at, state_at, is_blocked, item_in, is_arriving, arrival_at, arrivals, is_nth, sampled_at, sampled, bypassing_at}
 pub use Rattle.chain_spec.specs.Growth.{EndsWith, BeginsWith, Grows, GrowsAtEnd}
 pub use Rattle.chain_spec.specs.Heads.{Head, head_for, heads_of}
-pub use Rattle.chain_spec.specs.Items.{Item, is_of, told_of, item_at, told_by, kept_parcel}
+pub use Rattle.chain_spec.specs.Items.{Item, is_of, number_of, told_of, item_at, told_by, kept_parcel}
 pub use Rattle.chain_spec.specs.Limits.{Candidate, window_at, those_in, load, has_room, passes_rate, passes_traffic, sent_of, is_let_out}
 pub use Rattle.chain_spec.specs.Memory.{Stored, event_of, has_event, events_of, since, renews, run_of, oldest_tick, row_over, row_of, newest_rows, memory_of}
 pub use Rattle.chain_spec.specs.Messages.{byte_7, message_of, weighed, spelled}

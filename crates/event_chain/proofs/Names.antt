@@ -9,7 +9,8 @@ pub use Rattle.std.specs.Bool.{IsFalse}
 pub use Rattle.std.specs.List.{All, range_with_len, list_any}
 pub use Rattle.filter_chain.specs.{Sends, last_tick, newest_tick, IsShort, HandsBack, all_parcels, parcel_of, turn_by, carried_room}
 pub use Rattle.chain_spec.proofs.StageLemmas.{added_behind, with_all-append}
-pub use Rattle.chain_spec.specs.{Call, call_tick, closes_due, arrives, qualified_of, Fate, ending_at, coming, given, gated_at, aggregated_at, gated, aggregated, qualified, counted, arrival, alone, Head as Told, heads_of, Item, item_at, told_by, kept_parcel, Moment, act_moment, comes, closes, mode_is, state_is, head_moment, moments, with_all, verdict, EndBy}
+pub use Rattle.chain_spec.specs.{Call, call_tick, closes_due, arrives, qualified_of, ending_at, coming, given, gated_at, aggregated_at, gated, aggregated, qualified, counted, arrival, alone, Head as Told, heads_of, Item, item_at, told_by, kept_parcel, Moment, act_moment, comes, closes, mode_is, state_is, head_moment, moments, with_all, verdict, EndBy}
+pub use Rattle.chain_spec.specs.declared.fate.Fate.{Fate}
 pub use Rattle.filter_aggregate.proofs.StandsLemmas.{stands_closing, stands_alone, due_closes}
 pub use Rattle.filter_aggregate.specs.{Accounts, all_kept, slots_by, fresh_slot, is_due, slot_at, slot_by}
 pub use Rattle.filter_aggregate.specs.declared.slot.Slot.{Slot}

@@ -1,18 +1,9 @@
 -- Endings as a chain tells them, and the fates of items after the gate.
 use Rattle.std.specs.Prelude.{ℕ, not, Bool, List, None, map, is_some, if◌then◌else◌}
-use Rattle.event_chain.specs.Names.{dropped_fate, answered_fate, Parts, event_at, Fate, in_window, at_threshold, qualified_fate, Ending, counted, Item, Moment, verdict}
-use Rattle.event_chain.specs.declared.fate.Ending.{Ending as ToldEnding}
-use Rattle.event_chain.specs.declared.fate.Fate.{Fate as ToldFate}
-use Rattle.event_chain.specs.declared.fate.Fate.TheVariants.{Dropped, Joined, Below, Qualified}
+use Rattle.event_chain.specs.Names.{Parts, event_at, Fate, InWindow, AtThreshold, qualified_fate, Ending, counted, Item, Moment, verdict}
+use Rattle.event_chain.specs.declared.ending.Ending.{Ending as ToldEnding}
 
 -- ---- what is told
-
--- the fate that is told
-abbrev pub fate_of : ToldFate → Fate
-fate_of (Dropped cause) = dropped_fate cause
-fate_of Joined = in_window
-fate_of Below = at_threshold
-fate_of (Qualified answer) = answered_fate answer
 
 -- the ending of an item of which only its event and its count are told
 abbrev pub told : ℕ → ℕ → Bool → Fate → Ending
@@ -28,7 +19,7 @@ bare ending = told ending.item.event ending.item.count ending.by_window ending.f
 
 -- the ending that is told
 abbrev pub ending_of : ToldEnding → Ending
-ending_of ending = told ending.event.0 ending.count ending.by_window (fate_of ending.fate)
+ending_of ending = told ending.event.0 ending.count ending.by_window ending.fate
 
 -- ---- who is told
 
@@ -41,10 +32,10 @@ Knowing W = W → Parts → List Moment → Type 0
 -- after the aggregation filter
 abbrev pub counted_fate : Parts → List Item → List Item → Item → Fate
 counted_fate config joined items item =
-    if not (verdict (event_at config item.event).threshold (counted item) (map counted joined)) then at_threshold
+    if not (verdict (event_at config item.event).threshold (counted item) (map counted joined)) then AtThreshold
     else qualified_fate config items item
 
 -- before it
 abbrev pub passed_fate : Parts → List Item → List Item → Item → Fate
 passed_fate config joined items item =
-    if is_some (event_at config item.event).aggregate then in_window else counted_fate config joined items item
+    if is_some (event_at config item.event).aggregate then InWindow else counted_fate config joined items item

@@ -5,10 +5,10 @@ ghost use Rattle.ids_config.specs.Parts.{Parts};
 ghost use Rattle.chain_spec.specs.{thresholded_at, Item, EndBy};
 ghost use Rattle.message_sender.specs.{most_message, Start, TakesOne, Stands as SenderStands};
 ghost use Rattle.filter_threshold.specs.Counting.{Stands as ThresholdsStand};
-ghost use Rattle.event_chain.specs.{fate_of, counted_fate, CountingStands, Stores, CanCount, HasEvent};
+ghost use Rattle.event_chain.specs.{counted_fate, CountingStands, Stores, CanCount, HasEvent};
 
-use crate::fate::Fate;
 use crate::outlet::Outlet;
+use chain_spec::Fate;
 use filter_threshold::Thresholds;
 use ids_config::Config;
 use ids_types::{NoMemory, TurnOut};
@@ -49,7 +49,7 @@ impl Counting {
             → CountingStands config start joined items self.old out.old
             → EndBy (λ item. item.tick) report.now.tick joined
             → EndBy (λ item. item.tick) report.now.tick items
-            → fate_of result ≡ counted_fate config joined items report.now }
+            → result ≡ counted_fate config joined items report.now }
         ensures one { TakesOne (most_message report.now.context) self.old.outlet.sender self.new.outlet.sender out.old out.new }
         ensures has { (k : ℕ) → HasEvent k self.old → HasEvent k self.new }
     {
@@ -57,9 +57,9 @@ impl Counting {
             .thresholds
             .arrive(report.event, report.tick, report.count)
         {
-            Fate::Qualified(self.outlet.qualify(report, out))
+            self.outlet.qualify(report, out)
         } else {
-            Fate::Below
+            Fate::AtThreshold
         }
     }
 }

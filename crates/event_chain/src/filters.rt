@@ -9,12 +9,13 @@ ghost use Rattle.chain_spec.specs.{qualified, item_at, told_by, Moment, act_mome
 ghost use Rattle.filter_chain.specs.{HandsBack, IsShort, parcel_of, FitsAct};
 ghost use Rattle.filter_aggregate.specs.{all_kept, is_due, slot_at};
 ghost use Rattle.message_sender.specs.Sending.{Start, start_of};
-ghost use Rattle.event_chain.specs.{IsBehind, kept_told, ending_of, fate_of, told, Rests, HasPlaces, HasSentRoom, IsReady, Stays, CanSend, TakesRoom};
+ghost use Rattle.event_chain.specs.{IsBehind, kept_told, ending_of, told, Rests, HasPlaces, HasSentRoom, IsReady, Stays, CanSend, TakesRoom};
 
 use crate::counting::Counting;
-use crate::fate::{Ending, Fate};
+use crate::ending::Ending;
 use crate::joining::{go_on, lent, pass};
 use crate::witness::Witness;
+use chain_spec::Fate;
 use filter_aggregate::Windows;
 use filter_chain::{give_back, take_kept};
 use filter_gate::{GateState, Verdict};
@@ -152,16 +153,15 @@ impl<B: Parcel, W: Witness> Filters<B, W> {
     {
         let (event, count) = (item.event, item.count);
         match self.gate.gate(event) {
-            Verdict::Dropped(cause) => {
+            Verdict::Held(fate) => {
                 give_back(item.context, back);
-                self.witness.tell(came(event, count, Fate::Dropped(cause)));
+                self.witness.tell(came(event, count, fate));
             }
             Verdict::Bypass { context } => {
                 let item = let_through(item, context, back);
-                let answer = self.counting.outlet.qualify(&lent(tick, &item), out);
+                let fate = self.counting.outlet.qualify(&lent(tick, &item), out);
                 give_back(item.context, back);
-                self.witness
-                    .tell(came(event, count, Fate::Qualified(answer)));
+                self.witness.tell(came(event, count, fate));
             }
             Verdict::Pass { context } => {
                 let item = let_through(item, context, back);
@@ -174,7 +174,7 @@ impl<B: Parcel, W: Witness> Filters<B, W> {
 
 /// The ending of an item that came.
 fn came(event: EventIndex, count: u16, fate: Fate) -> Ending
-    ensures { ending_of result ≡ told event.0 count false (fate_of fate) }
+    ensures { ending_of result ≡ told event.0 count false fate }
 {
     Ending {
         event,

@@ -7,10 +7,10 @@ ghost use Rattle.chain_spec.specs.{Call, arrives, call_tick, thresholded_at, Ite
 ghost use Rattle.filter_chain.specs.Parcels.{HandsBack};
 ghost use Rattle.filter_aggregate.specs.{all_kept, is_due, slot_at, slots_by, Stands as WindowsStand};
 ghost use Rattle.message_sender.specs.{most_message, Start, TakesOne};
-ghost use Rattle.event_chain.specs.{fate_of, counted_fate, passed_fate, CountingStands, Flows, EndAt, joined_with, items_with, CanCount, HasEvent, SettledAt, TakesRoom, Windowed};
+ghost use Rattle.event_chain.specs.{counted_fate, passed_fate, CountingStands, Flows, EndAt, joined_with, items_with, CanCount, HasEvent, SettledAt, TakesRoom, Windowed};
 
 use crate::counting::Counting;
-use crate::fate::Fate;
+use chain_spec::Fate;
 use filter_aggregate::Windows;
 use filter_chain::give_back;
 use ids_types::{Parcel, Qualified, TurnOut};
@@ -40,7 +40,7 @@ pub(crate) fn pass<B: Parcel>(
     ensures fate { (config : Parts) (start : Start) (calls : List (Call (List ℕ))) (joined items : List Item)
         → Flows B.held config start calls joined items windows.old counting.old out.old
         → EndAt tick calls joined items
-        → fate_of result ≡ passed_fate config joined items (item_at tick (told_by B.held item)) }
+        → result ≡ passed_fate config joined items (item_at tick (told_by B.held item)) }
     ensures parcels { HandsBack (option_to_list item.context) (all_kept windows.old)
         (all_kept windows.new) back.old.items back.new.items }
     ensures capacity { vec_capacity back.new ≡ vec_capacity back.old }
@@ -51,7 +51,7 @@ pub(crate) fn pass<B: Parcel>(
 {
     if windows.aggregates(item.event) {
         join(windows, tick, item, back);
-        Fate::Joined
+        Fate::InWindow
     } else {
         go_on(counting, tick, item, back, out)
     }
@@ -98,7 +98,7 @@ pub(crate) fn go_on<B: Parcel>(
         → CountingStands config start joined items counting.old out.old
         → EndBy (λ item. item.tick) tick joined
         → EndBy (λ item. item.tick) tick items
-        → fate_of result ≡ counted_fate config joined items (item_at tick (told_by B.held item)) }
+        → result ≡ counted_fate config joined items (item_at tick (told_by B.held item)) }
     ensures sends { TakesRoom B.held 1 back.old.items back.new.items out.old out.new }
     ensures one { TakesOne (most_message (option_map B.held item.context)) counting.old.outlet.sender counting.new.outlet.sender out.old out.new }
     ensures has { (k : ℕ) → HasEvent k counting.old → HasEvent k counting.new }

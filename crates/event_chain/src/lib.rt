@@ -8,8 +8,8 @@
 #![tactic(auto)]
 
 mod counting;
+mod ending;
 mod event_chain;
-mod fate;
 mod filters;
 mod joining;
 mod laws;
@@ -17,7 +17,7 @@ mod outlet;
 mod turns;
 mod witness;
 
+pub use ending::Ending;
 pub use event_chain::EventChain;
-pub use fate::{Ending, Fate};
 pub use laws::a_chain_keeps_what_its_open_windows_do;
 pub use witness::{Unwatched, Witness};

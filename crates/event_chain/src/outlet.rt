@@ -3,13 +3,13 @@
 ghost use Rattle.std.specs.Prelude.{◌≡◌, ◌<◌, List, [], ◌∷◌, length, map, IfOk, IfSome};
 ghost use Rattle.ids_config.specs.Parts.{Parts};
 ghost use Rattle.chain_spec.specs.{qualified_fate, Item, EndBy};
-ghost use Rattle.message_sender.specs.{CanQualify, IsShort, most_message, source_of, Start, TakesOne, Stands as SenderStands, answered_fate};
+ghost use Rattle.message_sender.specs.{CanQualify, IsShort, most_message, source_of, Start, TakesOne, Stands as SenderStands};
 ghost use Rattle.event_chain.specs.Outlets.{Stores, OutletStands};
 
+use chain_spec::Fate;
 use event_memory::Memory;
 use ids_config::Config;
 use ids_types::{Key, NoMemory, TurnOut};
-use limits::Admit;
 use message_sender::{Report, Sender};
 use std::alloc::Global;
 
@@ -34,8 +34,8 @@ impl Outlet {
         })
     }
 
-    /// Takes a qualified event, and answers what the limits say to its message, `None` where it has none.
-    pub(crate) fn qualify(&mut self, report: &Report<'_>, out: &mut TurnOut) -> Option<Admit>
+    /// Takes a qualified event, and returns its fate.
+    pub(crate) fn qualify(&mut self, report: &Report<'_>, out: &mut TurnOut) -> Fate
         requires can { CanQualify self.old.sender report.now out.old }
         ensures stands { (config : Parts) (start : Start) (items : List Item)
             → OutletStands config start items self.old out.old
@@ -44,7 +44,7 @@ impl Outlet {
         ensures fate { (config : Parts) (start : Start) (items : List Item)
             → OutletStands config start items self.old out.old
             → EndBy (λ item. item.tick) report.now.tick items
-            → answered_fate result ≡ qualified_fate config items report.now }
+            → result ≡ qualified_fate config items report.now }
         ensures one { TakesOne (most_message report.now.context) self.old.sender self.new.sender out.old out.new }
     {
         self.store(report);

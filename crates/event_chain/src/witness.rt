@@ -5,7 +5,7 @@ ghost use Rattle.ids_config.specs.Parts.{Parts};
 ghost use Rattle.chain_spec.specs.{ending_at, Moment};
 ghost use Rattle.event_chain.specs.Fates.{bare, ending_of};
 
-use crate::fate::Ending;
+use crate::ending::Ending;
 
 /// A witness of a chain, who is told of each ending.
 pub trait Witness: Drop {

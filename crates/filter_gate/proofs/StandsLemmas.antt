@@ -3,9 +3,10 @@ use Rattle.filter_gate.proofs.Names.{◌≡◌, ℕ, ◌<◌, ◌+◌, ◌%◌, 
 use Rattle.std.proofs.lemmas.Grind.{common_steps}
 use Rattle.ids_types.specs.declared.mode.Mode.{Mode}
 use Rattle.ids_types.specs.declared.mode.Mode.TheVariants.{Off, Brief, Detailed, BriefBypassing, DetailedBypassing}
-use Rattle.chain_spec.specs.{Fate, at_mode, at_block, at_nth, coming, qualified_fate, qualified, is_filtered, is_bypassing, is_detailed, mode_at, state_at, item_in, is_blocked, arrivals, is_nth, sampled_at, Item, Moment, closes, comes, where_true}
-use Rattle.filter_gate.specs.declared.verdict.Cause.TheVariants.{Mode as ByMode, Block as ByBlock, Nth as ByNth}
-use Rattle.filter_gate.specs.declared.verdict.Verdict.TheVariants.{Dropped, Bypass, Pass}
+use Rattle.chain_spec.specs.{coming, qualified_fate, qualified, is_filtered, is_bypassing, is_detailed, mode_at, state_at, item_in, is_blocked, arrivals, is_nth, sampled_at, Item, Moment, closes, comes, where_true}
+use Rattle.chain_spec.specs.declared.fate.Fate.{Fate}
+use Rattle.chain_spec.specs.declared.fate.Fate.TheVariants.{AtMode, AtBlock, AtNth}
+use Rattle.filter_gate.specs.declared.verdict.Verdict.TheVariants.{Held, Bypass, Pass}
 
 -- one arrival more, counted from the last nth one
 rank : (n nth : ℕ) → (n % nth + 1) % nth ≡ (n + 1) % nth
@@ -13,11 +14,11 @@ rank n nth = grind (arith, suc-mod n nth)
 
 -- what the verdict lets through under each mode, and the fate that it gives
 told_under : (mode : Mode) (blocked nth : Bool) (bypassing sampled : Item → Fate) (item : Item)
-    → let verdict = if is_bypassing mode then Bypass (is_detailed mode) else if not (is_filtered mode) then Dropped ByMode
-    else if blocked then Dropped ByBlock else if nth then Pass (is_detailed mode) else Dropped ByNth in
+    → let verdict = if is_bypassing mode then Bypass (is_detailed mode) else if not (is_filtered mode) then Held AtMode
+    else if blocked then Held AtBlock else if nth then Pass (is_detailed mode) else Held AtNth in
     (let_through verdict item ≡ (if nth then where_true (is_filtered mode && not blocked) (item_in mode item) else None))
-    × ((if is_bypassing mode then bypassing (item_in mode item) else if not (is_filtered mode) then at_mode
-    else if blocked then at_block else if not nth then at_nth else sampled (item_in mode item))
+    × ((if is_bypassing mode then bypassing (item_in mode item) else if not (is_filtered mode) then AtMode
+    else if blocked then AtBlock else if not nth then AtNth else sampled (item_in mode item))
     ≡ fate_by verdict bypassing sampled item)
 told_under Off blocked nth bypassing sampled item = (grind arith, refl)
 told_under Brief blocked nth bypassing sampled item = (grind arith, grind arith)

@@ -4,10 +4,10 @@ use Rattle.std.specs.List.{list_any}
 use Rattle.ids_types.specs.declared.mode.Mode.{Mode}
 use Rattle.ids_types.specs.declared.mode.Mode.TheVariants.{Detailed}
 use Rattle.ids_config.specs.Parts.{Event}
+use Rattle.chain_spec.specs.declared.fate.Fate.TheVariants.{AtMode, AtBlock, AtNth}
 use Rattle.chain_spec.specs.Gate.{is_filtered, is_bypassing, is_detailed}
-use Rattle.filter_gate.specs.declared.verdict.Cause.TheVariants.{Mode as ByMode, Block as ByBlock, Nth as ByNth}
 use Rattle.filter_gate.specs.declared.verdict.Verdict.{Verdict}
-use Rattle.filter_gate.specs.declared.verdict.Verdict.TheVariants.{Dropped, Bypass, Pass}
+use Rattle.filter_gate.specs.declared.verdict.Verdict.TheVariants.{Held, Bypass, Pass}
 
 -- what is kept of an event: its reporting mode, its n, how many items arrived since the last nth one, and the
 -- states that block it
@@ -56,10 +56,10 @@ with_mode mode row = record { mode = mode; nth = row.nth; since = row.since; blo
 abbrev pub verdict_on : ℕ → Row → Verdict
 verdict_on state row =
     if is_bypassing row.mode then Bypass (is_detailed row.mode)
-    else if not (is_filtered row.mode) then Dropped ByMode
-    else if is_blocking state row then Dropped ByBlock
+    else if not (is_filtered row.mode) then Held AtMode
+    else if is_blocking state row then Held AtBlock
     else if since_with_one row == 0 then Pass (is_detailed row.mode)
-    else Dropped ByNth
+    else Held AtNth
 
 -- the row after an item under this state
 abbrev pub after_asking : ℕ → Row → Row

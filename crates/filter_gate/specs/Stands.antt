@@ -1,11 +1,11 @@
 -- For which moments a gate stands, what a verdict makes of an item, and where its way ends by it.
 use Rattle.std.specs.Prelude.{◌≡◌, ◌<◌, ℕ, ◌%◌, Bool, List, length, Option, Some, None, is_some, if◌then◌else◌}
 use Rattle.ids_config.specs.Parts.{Parts, event_at}
-use Rattle.chain_spec.specs.{Fate, at_mode, at_block, at_nth, in_window, aggregated_fate, mode_at, state_at, arrivals, Item, Moment}
-use Rattle.filter_gate.specs.declared.verdict.Cause.{Cause}
-use Rattle.filter_gate.specs.declared.verdict.Cause.TheVariants.{Mode as ByMode, Block as ByBlock, Nth as ByNth}
+use Rattle.chain_spec.specs.{aggregated_fate, mode_at, state_at, arrivals, Item, Moment}
+use Rattle.chain_spec.specs.declared.fate.Fate.{Fate}
+use Rattle.chain_spec.specs.declared.fate.Fate.TheVariants.{InWindow}
 use Rattle.filter_gate.specs.declared.verdict.Verdict.{Verdict}
-use Rattle.filter_gate.specs.declared.verdict.Verdict.TheVariants.{Dropped, Bypass, Pass}
+use Rattle.filter_gate.specs.declared.verdict.Verdict.TheVariants.{Held, Bypass, Pass}
 use Rattle.filter_gate.specs.Gate.{Row, Gate, row_at, row_with}
 
 -- the row of event k after these moments
@@ -32,29 +32,23 @@ with_context context item = record {
 
 -- the item that a verdict lets through to the next filter
 abbrev pub let_through : Verdict → Item → Option Item
-let_through (Dropped cause) item = None
+let_through (Held fate) item = None
 let_through (Bypass context) item = None
 let_through (Pass context) item = Some (with_context context item)
 
 -- the item that a verdict lets by all filters
 abbrev pub let_by : Verdict → Item → Option Item
-let_by (Dropped cause) item = None
+let_by (Held fate) item = None
 let_by (Bypass context) item = Some (with_context context item)
 let_by (Pass context) item = None
 
--- the fate of what is dropped for this cause
-abbrev pub dropped_fate : Cause → Fate
-dropped_fate ByMode = at_mode
-dropped_fate ByBlock = at_block
-dropped_fate ByNth = at_nth
-
 -- the fate that a verdict gives an item, by those of what it lets by and of what it lets through
 abbrev pub fate_by : Verdict → (Item → Fate) → (Item → Fate) → Item → Fate
-fate_by (Dropped cause) bypassing sampled item = dropped_fate cause
+fate_by (Held fate) bypassing sampled item = fate
 fate_by (Bypass context) bypassing sampled item = bypassing (with_context context item)
 fate_by (Pass context) bypassing sampled item = sampled (with_context context item)
 
 -- the fate of an item that is sampled after these moments: it goes into its event's window, or on where there is none
 abbrev pub sampled_fate : Parts → List Moment → Item → Fate
 sampled_fate config before item =
-    if is_some (event_at config item.event).aggregate then in_window else aggregated_fate config before item
+    if is_some (event_at config item.event).aggregate then InWindow else aggregated_fate config before item

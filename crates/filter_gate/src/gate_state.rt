@@ -57,7 +57,7 @@ impl GateState {
         ensures bypassing { (config : Parts) (before : List Moment) (item : Item)
             → item.event ≡ event.0 → Stands config before self.old
             → let_by result item ≡ bypassing_at config before (comes item) }
-        // What it drops ends here, for the cause that it tells.
+        // What it holds ends here, with the fate that it answers.
         ensures fate { (config : Parts) (before : List Moment) (item : Item)
             → item.event ≡ event.0 → Stands config before self.old
             → (coming config before item).fate ≡ fate_by result

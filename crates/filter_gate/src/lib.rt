@@ -11,4 +11,4 @@ mod row;
 mod verdict;
 
 pub use gate_state::GateState;
-pub use verdict::{Cause, Verdict};
+pub use verdict::Verdict;

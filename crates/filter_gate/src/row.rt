@@ -1,11 +1,12 @@
 //! The gate of one event: its mode, and its count for every nth.
 
 ghost use Rattle.std.specs.Prelude.{◌≡◌, ◌<◌, ◌==◌, IfOk, if◌then◌else◌};
-ghost use Rattle.filter_gate.specs.declared.verdict.Cause.TheVariants.{Nth};
-ghost use Rattle.filter_gate.specs.declared.verdict.Verdict.TheVariants.{Dropped, Pass};
+ghost use Rattle.chain_spec.specs.declared.fate.Fate.TheVariants.{AtNth};
+ghost use Rattle.filter_gate.specs.declared.verdict.Verdict.TheVariants.{Held, Pass};
 ghost use Rattle.filter_gate.specs.Gate.{fresh_row, since_with_one, with_arrival, with_mode, after_asking, verdict_on};
 
-use crate::verdict::{Cause, Verdict};
+use crate::verdict::Verdict;
+use chain_spec::Fate;
 use ids_config::EventParts;
 use ids_types::{Mode, NoMemory};
 use std::alloc::Global;
@@ -55,10 +56,10 @@ impl Row {
         ensures row { self.new ≡ after_asking state self.old }
     {
         match self.mode {
-            Mode::Off => Verdict::Dropped(Cause::Mode),
+            Mode::Off => Verdict::Held(Fate::AtMode),
             Mode::BriefBypassing => Verdict::Bypass { context: false },
             Mode::DetailedBypassing => Verdict::Bypass { context: true },
-            _ if self.block.contains(&state) => Verdict::Dropped(Cause::Block),
+            _ if self.block.contains(&state) => Verdict::Held(Fate::AtBlock),
             Mode::Brief => self.sample(false),
             Mode::Detailed => self.sample(true),
         }
@@ -67,14 +68,14 @@ impl Row {
     // Counts an item that arrived: each nth one passes.
     #[inline(always)]
     fn sample(&mut self, context: bool) -> Verdict
-        ensures verdict { result ≡ (if since_with_one self.old == 0 then Pass context else Dropped Nth) }
+        ensures verdict { result ≡ (if since_with_one self.old == 0 then Pass context else Held AtNth) }
         ensures row { self.new ≡ with_arrival self.old }
     {
         self.since = (self.since + 1) % self.nth;
         if self.since == 0 {
             Verdict::Pass { context }
         } else {
-            Verdict::Dropped(Cause::Nth)
+            Verdict::Held(Fate::AtNth)
         }
     }
 

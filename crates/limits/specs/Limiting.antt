@@ -6,16 +6,16 @@ use Rattle.ids_config.specs.Parts.{Parts}
 use Rattle.ids_config.specs.declared.parts.Window.{Window as Limit}
 use Rattle.chain_spec.specs.{Candidate, window_at, load, passes_rate, passes_traffic, sent_of, EndBy}
 use Rattle.limits.specs.Meters.{Meters}
-use Rattle.limits.specs.declared.admit.Admit.{Admit}
-use Rattle.limits.specs.declared.admit.Admit.TheVariants.{Sent, Rate, Traffic}
+use Rattle.chain_spec.specs.declared.fate.Fate.{Fate}
+use Rattle.chain_spec.specs.declared.fate.Fate.TheVariants.{AtRate, AtTraffic, Sent}
 use Rattle.limits.specs.declared.meter.Meter.{Meter}
 
 -- what is answered to a candidate, where these came before it
-abbrev pub answer_to : Parts → List Candidate → Candidate → Admit
+abbrev pub answer_to : Parts → List Candidate → Candidate → Fate
 answer_to config before candidate =
     if passes_rate config.rate before candidate
-    then (if passes_traffic config.traffic (sent_of config.rate config.traffic before) candidate then Sent else Traffic)
-    else Rate
+    then (if passes_traffic config.traffic (sent_of config.rate config.traffic before) candidate then Sent else AtTraffic)
+    else AtRate
 
 -- a meter, where these candidates came and these of them counted: it tells what is left in its window, none that
 -- counted lies in a later window, and none that may come next lies in an earlier one

@@ -2,8 +2,8 @@
 use Rattle.std.specs.Prelude.{ℕ, ◌-◌, ◌≤◌, ◌==◌, nat_le, Bool, true, Option, Some, None, option_map, if◌then◌else◌}
 use Rattle.ids_config.specs.declared.parts.Window.{Window as Limit}
 use Rattle.chain_spec.specs.Limits.{window_at}
-use Rattle.limits.specs.declared.admit.Admit.{Admit}
-use Rattle.limits.specs.declared.admit.Admit.TheVariants.{Sent, Rate, Traffic}
+use Rattle.chain_spec.specs.declared.fate.Fate.{Fate}
+use Rattle.chain_spec.specs.declared.fate.Fate.TheVariants.{AtRate, AtTraffic, Sent}
 use Rattle.limits.specs.declared.meter.Meter.{Meter}
 
 -- a meter for each limit that there is
@@ -51,9 +51,9 @@ abbrev pub after_any : ℕ → ℕ → Option Meter → Option Meter
 after_any tick weight meter = option_map (after_asking tick weight) meter
 
 -- what is answered to a message of so many bytes at a tick
-abbrev pub answer_of : ℕ → ℕ → Meters → Admit
+abbrev pub answer_of : ℕ → ℕ → Meters → Fate
 answer_of tick bytes meters =
-    if is_allowed tick 1 meters.rate then (if is_allowed tick bytes meters.traffic then Sent else Traffic) else Rate
+    if is_allowed tick 1 meters.rate then (if is_allowed tick bytes meters.traffic then Sent else AtTraffic) else AtRate
 
 -- the meters after the message: the traffic is asked where the rate has room
 abbrev pub after_message : ℕ → ℕ → Meters → Meters

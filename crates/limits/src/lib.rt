@@ -6,9 +6,7 @@
 //! list of candidates that it answers what `chain_spec` says of the next one (`specs/Limiting.antt`).
 #![tactic(auto)]
 
-mod admit;
 mod meter;
 mod state;
 
-pub use admit::Admit;
 pub use state::LimitState;

@@ -6,8 +6,8 @@ ghost use Rattle.chain_spec.specs.{Candidate, EndBy};
 ghost use Rattle.limits.specs.Limiting.{Stands, answer_to};
 ghost use Rattle.limits.specs.Meters.{HasInterval, answer_of, after_message, is_allowed, after_any};
 
-use crate::admit::Admit;
 use crate::meter::Meter;
+use chain_spec::Fate;
 use ids_config::Config;
 use std::marker::Model;
 
@@ -43,10 +43,10 @@ impl LimitState {
         }
     }
 
-    /// What the limits say to a message of so many bytes at the tick, which counts from now on: for the
+    /// The fate of a message of so many bytes at the tick, which counts from now on: for the
     /// rate in any case, and for the traffic where it is sent.
-    /// Steps: constant; at most two divisions. By: no loop; answer `Admit`, no NoMemory.
-    pub fn admit(&mut self, tick: u64, bytes: u32) -> Admit
+    /// Steps: constant; at most two divisions. By: no loop; answer `Fate`, no NoMemory.
+    pub fn admit(&mut self, tick: u64, bytes: u32) -> Fate
         ensures answer { (config : Parts) (before : List Candidate) → Stands config before self.old
             → EndBy (λ one. one.tick) tick before
             → result ≡ answer_to config before (record { tick = tick; bytes = bytes }) }
@@ -57,16 +57,16 @@ impl LimitState {
         self.ask(tick, bytes)
     }
 
-    fn ask(&mut self, tick: u64, bytes: u32) -> Admit
+    fn ask(&mut self, tick: u64, bytes: u32) -> Fate
         ensures answer { result ≡ answer_of tick bytes self.old }
         ensures after { self.new ≡ after_message tick bytes self.old }
     {
         if !takes(&mut self.rate, tick, 1) {
-            Admit::Rate
+            Fate::AtRate
         } else if !takes(&mut self.traffic, tick, u64::from(bytes)) {
-            Admit::Traffic
+            Fate::AtTraffic
         } else {
-            Admit::Sent
+            Fate::Sent
         }
     }
 }

@@ -1,7 +1,6 @@
 -- One candidate more.
-use Rattle.message_sender.proofs.Names.{◌≡◌, ℕ, ◌+◌, ◌<◌, Bool, true, false, Some, List, [], ◌∷◌, length, map, if◌then◌else◌, refl, sym, ap, ◌∙◌, arith, append_assoc, Parts, event_at, is_given, MessageParts, spelling, candidates, is_out, qualified_fate, Item, Candidate, weighed, message_of, EndBy, SenderParts, source_at, message_by, with_held, lets_out, after_answer, out_after, Start, IsSending, answered_fate}
+use Rattle.message_sender.proofs.Names.{◌≡◌, ℕ, ◌+◌, ◌<◌, Bool, true, false, not, List, [], ◌∷◌, length, map, if◌then◌else◌, refl, sym, ap, ◌∙◌, arith, append_assoc, Parts, event_at, is_given, MessageParts, spelling, candidates, is_out, qualified_fate, Item, Candidate, weighed, message_of, EndBy, SenderParts, source_at, message_by, with_held, after_answer, out_after, Start, IsSending, Fate, is_limited}
 use Rattle.ids_types.specs.Output.{Output, has_sent}
-use Rattle.limits.specs.declared.admit.Admit.{Admit}
 use Rattle.limits.specs.Limiting.{Stands as LimitsStand, answer_to}
 use Rattle.limits.specs.Meters.{Meters}
 use Rattle.chain_spec.proofs.CoverLemmas.{end_of_some}
@@ -15,7 +14,7 @@ weighed_end config tick (item ∷ items) by = (by.0, weighed_end config item.tic
 
 -- a candidate is offered, and limits answer this to it
 module _ (config : Parts) (start : Start) (items : List Item) (sender : SenderParts) (item : Item) (out : Output) (message : MessageParts)
-    (one : Candidate) (answer : Admit) (limits : Meters) (sending : IsSending config start items sender out) (by : EndBy (λ item. item.tick) item.tick items)
+    (one : Candidate) (answer : Fate) (limits : Meters) (sending : IsSending config start items sender out) (by : EndBy (λ item. item.tick) item.tick items)
     (within : item.event < length sender.sources) (to_send : (source_at sender item.event).send ≡ true)
     (told : message ≡ message_by sender item) (offered : one ≡ record { tick = item.tick; bytes = length (spelling message) })
     (answered : (before : List Candidate) → LimitsStand config before sender.limits → EndBy (λ one. one.tick) one.tick before
@@ -55,17 +54,17 @@ module _ (config : Parts) (start : Start) (items : List Item) (sender : SenderPa
   limits_are = rw sends (rw weighed_is at (stand earlier sending.stands.limits earlier_end))
 
   -- the item is sent or held back, and counts or not
-  sent_so : (is given : Bool) → is_out config (candidates config items) item ≡ is → is_given config.limited item.event ≡ given
-      → IsSending config start (item ∷ items) (if is then weighing else if given then weighing else with_held (sender.held + 1) weighing)
-      (if is then has_sent (spelling (message_of config item)) out else out)
-  sent_so true given out_is given_is = grind (arith, sends, out_is, limits_are, sending, append_assoc)
-  sent_so false given out_is given_is = grind (arith, sends, out_is, given_is, limits_are, sending)
+  sent_so : (back given : Bool) → is_out config (candidates config items) item ≡ not back → is_given config.limited item.event ≡ given
+      → IsSending config start (item ∷ items) (if back then if given then weighing else with_held (sender.held + 1) weighing else weighing)
+      (if back then out else has_sent (spelling (message_of config item)) out)
+  sent_so true given out_is given_is = grind (arith, sends, out_is, given_is, limits_are, sending)
+  sent_so false given out_is given_is = grind (arith, sends, out_is, limits_are, sending, append_assoc)
 
   -- what is sent and held back with it, by the answer, and its fate
   pub settled : IsSending config start (item ∷ items) (after_answer answer item.event weighing) (out_after answer (spelling message) out)
-      × (answered_fate (Some answer) ≡ qualified_fate config items item)
+      × (answer ≡ qualified_fate config items item)
   settled = (
-    rw message_is (sent_so (lets_out answer) (is_given sender.limited item.event) (grind (arith, answer_is))
+    rw message_is (sent_so (is_limited answer) (is_given sender.limited item.event) (grind (arith, answer_is))
         (ap (λ limited. is_given limited item.event) (sym sending.stands.limited))),
     grind (arith, sends, answer_is),
   )

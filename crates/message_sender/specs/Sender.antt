@@ -1,10 +1,10 @@
 -- The sender as plain data, and its step by one candidate.
-use Rattle.std.specs.Prelude.{ℕ, ◌+◌, ◌-◌, ◌^◌, ◌<◌, ◌≤◌, Bool, true, false, List, length, Option, None, Some, IfSome, option_map, slice_index_or, if◌then◌else◌}
+use Rattle.std.specs.Prelude.{ℕ, ◌+◌, ◌-◌, ◌^◌, ◌<◌, ◌≤◌, false, List, length, Option, None, Some, IfSome, option_map, slice_index_or, if◌then◌else◌}
 use Rattle.ids_types.specs.Output.{Output, has_sent}
 use Rattle.ids_config.specs.Parts.{Event, is_given}
 use Rattle.ids_frame.specs.{context_of, MessageParts}
-use Rattle.limits.specs.declared.admit.Admit.{Admit}
-use Rattle.limits.specs.declared.admit.Admit.TheVariants.{Sent, Rate, Traffic}
+use Rattle.chain_spec.specs.Fates.{is_limited}
+use Rattle.chain_spec.specs.declared.fate.Fate.{Fate}
 use Rattle.limits.specs.Meters.{Meters}
 use Rattle.chain_spec.specs.{Item, byte_7}
 use Rattle.message_sender.specs.declared.source.Source.{Source}
@@ -61,19 +61,13 @@ with_held number sender = record sender { held = number }
 abbrev pub with_held_back : ℕ → SenderParts → SenderParts
 with_held_back k sender = if is_given sender.limited k then sender else with_held (sender.held + 1) sender
 
--- the answer lets a candidate out
-abbrev pub lets_out : Admit → Bool
-lets_out Sent = true
-lets_out Rate = false
-lets_out Traffic = false
+-- the sender after this fate of a candidate of event k
+abbrev pub after_answer : Fate → ℕ → SenderParts → SenderParts
+after_answer fate k sender = if is_limited fate then with_held_back k sender else sender
 
--- the sender after this answer to a candidate of event k
-abbrev pub after_answer : Admit → ℕ → SenderParts → SenderParts
-after_answer answer k sender = if lets_out answer then sender else with_held_back k sender
-
--- the output after this answer to a candidate with these bytes
-abbrev pub out_after : Admit → List ℕ → Output → Output
-out_after answer message out = if lets_out answer then has_sent message out else out
+-- the output after this fate of a candidate with these bytes
+abbrev pub out_after : Fate → List ℕ → Output → Output
+out_after fate message out = if is_limited fate then out else has_sent message out
 
 -- how many bytes a message with these context data has at most: 16 without any, and else four for their number, and they
 -- themselves

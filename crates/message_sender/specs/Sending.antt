@@ -1,13 +1,11 @@
 -- What a sender sends of qualified events, and what is held back of them. The newest stands first.
 -- Public standard: AUTOSAR SWS Intrusion Detection System Manager, rate and traffic limitation after the
 -- filter chain.
-use Rattle.std.specs.Prelude.{◌≡◌, ℕ, ◌+◌, ◌≤◌, List, map, length, ◌++◌, Option, Some, None}
+use Rattle.std.specs.Prelude.{◌≡◌, ℕ, ◌+◌, ◌≤◌, List, map, length, ◌++◌}
 use Rattle.ids_types.specs.Output.{Output, room_of}
 use Rattle.ids_config.specs.Parts.{Parts}
-use Rattle.limits.specs.declared.admit.Admit.{Admit}
-use Rattle.limits.specs.declared.admit.Admit.TheVariants.{Sent, Rate, Traffic}
 use Rattle.limits.specs.Limiting.{Stands as LimitsStand}
-use Rattle.chain_spec.specs.{candidates, sent, held, Fate, unsent, at_rate, at_traffic, let_out, Item, weighed, spelled}
+use Rattle.chain_spec.specs.{candidates, sent, held, Item, weighed, spelled}
 use Rattle.message_sender.specs.Sender.{SenderParts, source_of}
 
 -- the sender is that of the configuration after these qualified events: it knows the configured names, and the
@@ -40,13 +38,6 @@ pub record IsSending (config : Parts) (start : Start) (items : List Item) (sende
   pub counted : length (held config items) ≡ start.held + sender.held
   pub bytes : spelled config (sent config items) ≡ start.bytes ++ out.sent
   pub number : length (sent config items) ≡ start.messages + out.messages
-
--- the fate of a qualified event by what the limits say to its message, where it is to be sent
-abbrev pub answered_fate : Option Admit → Fate
-answered_fate None = unsent
-answered_fate (Some Rate) = at_rate
-answered_fate (Some Traffic) = at_traffic
-answered_fate (Some Sent) = let_out
 
 -- by one qualified event the sender counts at most one, and the output has at most one message more, of at most so many
 -- bytes

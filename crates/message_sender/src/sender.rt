@@ -5,14 +5,15 @@ ghost use Rattle.ids_types.specs.Output.{Output, has_sent};
 ghost use Rattle.ids_config.specs.Parts.{Parts};
 ghost use Rattle.ids_frame.specs.{context_of, spelling};
 ghost use Rattle.chain_spec.specs.{held, qualified_fate, Item, byte_7, EndBy};
-ghost use Rattle.message_sender.specs.{HasSixBits, IsNamed, IsShort, CanQualify, most_message, source_of, source_at, message_by, with_held, with_held_back, after_answer, out_after, Stands, Start, start_of, IsSending, TakesOne, answered_fate};
+ghost use Rattle.message_sender.specs.{HasSixBits, IsNamed, IsShort, CanQualify, most_message, source_of, source_at, message_by, with_held, with_held_back, after_answer, out_after, Stands, Start, start_of, IsSending, TakesOne};
 
 use crate::report::Report;
 use crate::source::Source;
+use chain_spec::Fate;
 use ids_config::{Config, EventParts};
 use ids_frame::{Context, Message, spell};
 use ids_types::{EventIndex, NoMemory, TurnOut};
-use limits::{Admit, LimitState};
+use limits::LimitState;
 use std::alloc::Global;
 use std::marker::Model;
 
@@ -73,10 +74,9 @@ impl Sender {
     }
 
     /// Takes a qualified event. Where it is to be sent and the limits let it out, its message is sent; where
-    /// they hold it back, it counts, unless it is the event that tells of these. Answers what the limits say,
-    /// `None` where it is not to be sent.
+    /// they hold it back, it counts, unless it is the event that tells of these. Returns its fate.
     /// Steps: the bytes of the message, at most 1,044, copied once. By: condition `CanQualify`; read off.
-    pub fn qualify(&mut self, report: &Report<'_>, out: &mut TurnOut) -> Option<Admit>
+    pub fn qualify(&mut self, report: &Report<'_>, out: &mut TurnOut) -> Fate
         requires { CanQualify self.old report.now out.old }
         ensures sending { (config : Parts) (start : Start) (items : List Item)
             → IsSending config start items self.old out.old
@@ -85,13 +85,13 @@ impl Sender {
         ensures fate { (config : Parts) (start : Start) (items : List Item)
             → IsSending config start items self.old out.old
             → EndBy (λ item. item.tick) report.now.tick items
-            → answered_fate result ≡ qualified_fate config items report.now }
+            → result ≡ qualified_fate config items report.now }
         ensures one { TakesOne (most_message report.now.context) self.old self.new out.old out.new }
     {
         if self.source(report.event).send {
-            Some(self.offer(report, out))
+            self.offer(report, out)
         } else {
-            None
+            Fate::AtSend
         }
     }
 
@@ -115,7 +115,7 @@ impl Sender {
     }
 
     // Takes a candidate.
-    fn offer(&mut self, report: &Report<'_>, out: &mut TurnOut) -> Admit
+    fn offer(&mut self, report: &Report<'_>, out: &mut TurnOut) -> Fate
         requires can { CanQualify self.old report.now out.old }
         requires sends { (source_at self.old report.now.event).send ≡ true }
         ensures sending { (config : Parts) (start : Start) (items : List Item)
@@ -125,7 +125,7 @@ impl Sender {
         ensures fate { (config : Parts) (start : Start) (items : List Item)
             → IsSending config start items self.old out.old
             → EndBy (λ item. item.tick) report.now.tick items
-            → answered_fate (Some result) ≡ qualified_fate config items report.now }
+            → result ≡ qualified_fate config items report.now }
         ensures one { TakesOne (most_message report.now.context) self.old self.new out.old out.new }
     {
         let message = self.message(report);
@@ -160,7 +160,7 @@ impl Sender {
     }
 
     // Sends the message of an event or counts the event, as the limits say.
-    fn settle(&mut self, answer: Admit, event: EventIndex, message: &Message<'_>, out: &mut TurnOut)
+    fn settle(&mut self, answer: Fate, event: EventIndex, message: &Message<'_>, out: &mut TurnOut)
         requires few_held { self.old.held < 2 ^ 45 }
         requires room { length (spelling message.now) ≤ out.old.sent_left }
         requires few_messages { out.old.messages < 2 ^ 32 - 1 }
@@ -169,8 +169,8 @@ impl Sender {
         ensures one { TakesOne (length (spelling message.now)) self.old self.new out.old out.new }
     {
         match answer {
-            Admit::Sent => send(message, out),
-            Admit::Rate | Admit::Traffic => self.hold_back(event),
+            Fate::AtRate | Fate::AtTraffic => self.hold_back(event),
+            _ => send(message, out),
         }
     }
 

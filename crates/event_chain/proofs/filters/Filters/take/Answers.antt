@@ -4,10 +4,10 @@ use Rattle.event_chain.proofs.FateLemmas.{told_coming}
 use Rattle.event_chain.proofs.HandsLemmas.{hands_kept}
 use Rattle.event_chain.proofs.filters.Filters.take.Goals as goal
 
-pub returns-in-Dropped-clause-behind : goal.returns-in-Dropped-clause-behind
-returns-in-Dropped-clause-behind g c config start moments behind =
+pub returns-in-Held-clause-behind : goal.returns-in-Held-clause-behind
+returns-in-Held-clause-behind g c config start moments behind =
     let item = item_at c.args.tick (told_by g.B.Parcel.held c.args.item) in
-    let all = c.in-Dropped.ensures in
+    let all = c.in-Held.ensures in
     let known = c.tell.ensures config moments (comes item) behind.witness
     (told_coming config moments item c.came.ensures (all.fate config moments item refl behind.gate)) in
     behind_item behind (c.gate.ensures.stands config moments item refl behind.gate) known None
@@ -23,8 +23,8 @@ returns-in-Bypass-clause-behind g c config start moments behind =
     let all = c.in-Bypass.ensures in
     let flows = behind.flows in
     let same = c.lent.ensures ∙ rw (c.let_through-item.ensures.item, item_kept held c.in-Bypass.context tick c.args.item) refl in
-    let outlet = rw same at (c.qualify-answer.ensures.stands config start _ flows.behind.outlet) in
-    let fate = rw same at (c.qualify-answer.ensures.fate config start _ flows.behind.outlet) in
+    let outlet = rw same at (c.qualify-fate.ensures.stands config start _ flows.behind.outlet) in
+    let fate = rw same at (c.qualify-fate.ensures.fate config start _ flows.behind.outlet) in
     let known = c.tell-in-Bypass.ensures config moments (comes item) behind.witness
     (told_coming config moments item c.came-in-Bypass.ensures
     (all.fate config moments item refl behind.gate ∙ sym (fate behind.ends.items_end))) in

@@ -1,4 +1,4 @@
-use Rattle.message_sender.proofs.Names.{◌≡◌, ◌∷◌, List, Some, subst, Parts, qualified_fate, Item, EndBy, Start, IsSending, answered_fate}
+use Rattle.message_sender.proofs.Names.{◌≡◌, ◌∷◌, List, subst, Parts, qualified_fate, Item, EndBy, Start, IsSending}
 use Rattle.message_sender.specs.ReportView.{item_of}
 use Rattle.message_sender.specs.SenderView.{sender_of}
 use Rattle.message_sender.proofs.SendingLemmas.{settled}
@@ -10,10 +10,10 @@ both : (c : After-settle) (config : Parts) (start : Start) (items : List Item)
     → IsSending config start items c.args.self.now c.args.out.now
     → EndBy (λ item. item.tick) c.args.report.now.tick items
     → IsSending config start (c.args.report.now ∷ items) c.settle.new.self c.settle.new.out
-    × (answered_fate (Some c.admit-answer.result) ≡ qualified_fate config items c.args.report.now)
+    × (c.admit-answer.result ≡ qualified_fate config items c.args.report.now)
 both c config start items sending by =
     subst (λ (item : Item). IsSending config start (item ∷ items) c.settle.new.self c.settle.new.out
-    × (answered_fate (Some c.admit-answer.result) ≡ qualified_fate config items item)) c.report.view_is
+    × (c.admit-answer.result ≡ qualified_fate config items item)) c.report.view_is
     (rw (c.settle.ensures.sender, c.settle.ensures.out)
     (settled config start items (sender_of c.self.inside) (item_of c.report.inside) c.args.out.now c.message-message.result
     (record { tick = c.report.inside.tick; bytes = c.spelling_len-bytes.result }) c.admit-answer.result c.admit-answer.new.self

@@ -1,0 +1,53 @@
+-- Where the way of an item ends: the steps in their order. A step has the name of the fate that it gives.
+-- The members are those of the AUTOSAR SWS Intrusion Detection System Manager's filter chain; that each item has one
+-- that decided it is this project's own.
+use Rattle.std.specs.Prelude.{ℕ, Bool, true, false, List, [], ◌∷◌, codes}
+pub use Rattle.chain_spec.specs.declared.fate.Fate.{Fate}
+pub use Rattle.chain_spec.specs.declared.fate.Fate.TheVariants.{AtMode, AtBlock, AtNth, InWindow, AtThreshold, AtSend, AtRate, AtTraffic, Sent}
+
+-- the place of a step on the way, from 0
+abbrev pub place_of : Fate → ℕ
+place_of AtMode = 0
+place_of AtBlock = 1
+place_of AtNth = 2
+place_of InWindow = 3
+place_of AtThreshold = 4
+place_of AtSend = 5
+place_of AtRate = 6
+place_of AtTraffic = 7
+place_of Sent = 8
+
+-- the steps in their order
+abbrev pub all_steps : List Fate
+all_steps = AtMode ∷ AtBlock ∷ AtNth ∷ InWindow ∷ AtThreshold ∷ AtSend ∷ AtRate ∷ AtTraffic ∷ Sent ∷ []
+
+-- the word for a fate in texts: the member of the configuration that ended the item's way, or what else did
+abbrev pub fate_name : Fate → List ℕ
+fate_name AtMode = codes "mode"
+fate_name AtBlock = codes "block"
+fate_name AtNth = codes "nth"
+fate_name InWindow = codes "aggregate"
+fate_name AtThreshold = codes "threshold"
+fate_name AtSend = codes "unsent"
+fate_name AtRate = codes "rate"
+fate_name AtTraffic = codes "traffic"
+fate_name Sent = codes "sent"
+
+-- the item is qualified: it passed all filters, or bypassed them
+abbrev pub is_qualified : Fate → Bool
+is_qualified AtSend = true
+is_qualified AtRate = true
+is_qualified AtTraffic = true
+is_qualified Sent = true
+is_qualified _ = false
+
+-- a limit holds the item back
+abbrev pub is_limited : Fate → Bool
+is_limited AtRate = true
+is_limited AtTraffic = true
+is_limited _ = false
+
+-- the item is sent
+abbrev pub is_message : Fate → Bool
+is_message Sent = true
+is_message _ = false
