@@ -1,23 +1,27 @@
 -- What is told of moments, the lines of a turn by that, and the accounts; with the names that the proofs stand on.
 pub use Rattle.chain_plain.specs.{CanTake, RiseFrom, IsReady, turn_with}
-pub use Rattle.chain_spec.specs.{account_of, tally, with_ending, with_fate, with_one, with_stored, Ending, is_stored, endings, is_of, Moment, ending_at, act_moment, with_all, turn_moments, nothing, moments}
+pub use Rattle.chain_spec.specs.{account_by, account_of, all_steps, number_at, place_of, since_given, Ending, Item, is_stored, endings, is_of, Moment, ending_at, act_moment, with_all, turn_moments, moments}
 pub use Rattle.event_chain.specs.{bare, ending_of, StandsWatched}
 pub use Rattle.ids_config.specs.Parts.{Parts, event_at, plain_event}
 pub use Rattle.ids_types.specs.{Turn, turn_at, entries_of, plain_entry}
 pub use Rattle.ids_types.specs.declared.entry.Act.TheVariants.{State}
 pub use Rattle.ids_types.specs.declared.entry.Entry.{Entry}
 pub use Rattle.ids_types.specs.declared.entry.Act.{Act}
-pub use Rattle.std.proofs.Common.{◌≡◌, ℕ, suc, ◌+◌, ◌≤◌, ◌<◌, ◌==◌, Bool, List, [], ◌∷◌, ◌++◌, length, map, filter, reverse, take, if◌then◌else◌, refl, sym, ◌∙◌, arith, rules, ◌-◌, drop, Option, is_some, option_to_list, ap, append_assoc, get_or, subst}
+pub use Rattle.std.proofs.Common.{◌≡◌, ℕ, suc, ◌+◌, ◌≤◌, ◌<◌, ◌==◌, Bool, not, List, [], ◌∷◌, ◌++◌, length, map, filter, reverse, take, if◌then◌else◌, refl, sym, ◌∙◌, arith, rules, ◌-◌, drop, Option, is_some, option_to_list, ap, append_assoc, get_or, subst, flat_map, inl, inr}
+pub use Rattle.std.proofs.lemmas.Bool.{cases_lt}
 pub use Rattle.std.proofs.lemmas.Grind.{common_steps, elements}
-pub use Rattle.std.proofs.lemmas.List.{length-map, reverse-reverse, length-take-le, drop-map, drop_at, map-append, take-map, take_at, reverse-append, append-nil, take_all, get_or-replicate, map_more, get_or_default, drop_all, drop_more, map_push, length-take}
+pub use Rattle.std.proofs.lemmas.List.{length-map, reverse-reverse, length-take-le, drop-map, drop_at, map-append, take-map, take_at, reverse-append, append-nil, take_all, get_or-replicate, map_more, get_or_default, drop_all, drop_more, map_push, length-take, get_or_past, take_more, flat_map_more}
 pub use Rattle.std.specs.List.{All, AllByRecursion, range_with_len}
 pub use Rattle.text_spec.proofs.WordsLemmas.{text_of-append, one_more, text_of-map}
 pub use Rattle.text_spec.specs.{text_of, line_feed, enters, line_for, loses, begins}
-pub use Rattle.chain_endings.specs.{AreOf, CountsMissing, IsAtMost, kept_at, is_missing, told_in, ended_fields, entry_lines, opening, endings_along, entry_moments, is_report, turn_endings, turns_lines, Hears, turn_lines, given_line, account_line}
+pub use Rattle.chain_endings.specs.{AreOf, CountsMissing, IsAtMost, nothing, kept_at, with_ending, is_missing, told_in, ended_fields, entry_lines, opening, endings_along, entry_moments, is_report, turn_endings, turns_lines, Hears, turn_lines, given_line, account_line}
 pub use Rattle.filter_chain.specs.{last_tick, IsShort}
-use Rattle.std.proofs.lemmas.List.Elements.{filter-append}
+use native.Mathlib.Numerals.{unary_clauses}
+use Rattle.std.proofs.lemmas.List.Elements.{filter-append, All-map}
 use Rattle.std.proofs.lemmas.List.Sums.{count_by-le-length, length-filter}
-use Rattle.std.specs.Prelude.{slice_index_or}
+use Rattle.std.specs.Prelude.{slice_index_or, slice_set}
+use Rattle.chain_spec.specs.declared.fate.Fate.{Fate}
+use Rattle.chain_spec.specs.declared.fate.Fate.TheVariants.{AtMode, InWindow}
 use Rattle.chain_spec.specs.declared.account.Account.{Account}
 
 -- with all moments that come
@@ -108,33 +112,21 @@ turn_parts f config before turn told reports is count =
     let at : length first ≡ n = grind (arith, common_steps, count, ends, ap length all, length-map told f) in
     rw (← take-map f n told, ← drop-map f n told, all) (take_at first (map bare own) n at, drop_at first (map bare own) n at)
 
--- ---- numbers that are small enough
-
--- no number is above that of the endings
-tally_few : (config : Parts) (es : List Ending) → IsAtMost (length es) (length es) (length es) (tally config es)
-tally_few config [] = search (arith, rules)
-tally_few config (e ∷ es) = grind (arith, tally_few config es)
-
 -- ---- the endings of one event
 
--- the account of an event
-abbrev own_account : Parts → ℕ → List Ending → Account
-own_account config k es = tally config (filter (λ one. is_of k one.item) es)
+-- what is not told of endings decides nothing
+filter_bare : (test : Ending → Bool) (es : List Ending) → filter test (map bare es) ≡ map bare (filter (λ e. test (bare e)) es)
+filter_bare test [] = refl
+filter_bare test (e ∷ es) = grind (arith, filter_bare test es)
 
--- those of an event, of which this is the newest or not
-own_more : (config : Parts) (k : ℕ) (e : Ending) (es : List Ending)
-    → own_account config k (e ∷ es) ≡ (if is_of k e.item then with_ending config e (own_account config k es) else own_account config k es)
-own_more config k e es = grind arith
-
--- what is not told of endings changes nothing in an account
-same_bare : (config : Parts) (k : ℕ) (es : List Ending) → own_account config k (map bare es) ≡ own_account config k es
-same_bare config k [] = refl
-same_bare config k (e ∷ es) = rw (own_more config k (bare e) (map bare es), own_more config k e es, same_bare config k es) refl
+since_bare : (es : List Ending) → since_given (map bare es) ≡ map bare (since_given es)
+since_bare [] = refl
+since_bare (e ∷ es) = grind (arith, since_bare es)
 
 -- so the account of an event is that of all that is told
 pub told_account : (config : Parts) (k : ℕ) (moments : List Moment) {told : List Ending} → told ≡ told_in config moments
-    → tally config (filter (λ one. is_of k one.item) (reverse told)) ≡ account_of config k moments
-told_account config k moments is = rw (is, reverse-reverse) (same_bare config k (endings config moments))
+    → account_by config (filter (λ one. is_of k one.item) (reverse told)) ≡ account_of config k moments
+told_account config k moments is = rw (is, reverse-reverse) (simp (filter_bare, since_bare, length-map))
 
 -- ---- the accounts of all events
 
@@ -142,24 +134,64 @@ told_account config k moments is = rw (is, reverse-reverse) (same_bare config k 
 pub filter_few : {A : Type 0} (p : A → Bool) (xs : List A) → length (filter p xs) ≤ length xs
 filter_few p xs = rw length-filter (count_by-le-length p xs)
 
+-- one more at its step
+counted_more : (fate : Fate) (told : List Ending) (item : Item) (by_window : Bool)
+    → map (λ step. number_at step (record { item = item; by_window = by_window; fate = fate } ∷ told)) all_steps
+    ≡ slice_set (map (λ step. number_at step told) all_steps) (place_of fate) (number_at fate told + 1)
+counted_more AtMode told item by_window = simp unary_clauses refl
+counted_more _ told item by_window = simp unary_clauses refl
+
+-- the account with an ending more
+account_more : (config : Parts) (e : Ending) (es : List Ending)
+    → account_by config (e ∷ es) ≡ with_ending (is_stored config e) e (account_by config es)
+account_more config e es = rw (counted_more e.fate es e.item e.by_window) (grind arith)
+
+-- no more are there since a window gave an item
+since_few : (es : List Ending) → length (since_given es) ≤ length es
+since_few [] = omega arith
+since_few (e ∷ es) = grind (arith, since_few es)
+
+-- no number is above that of the endings
+account_few : (config : Parts) (es : List Ending) (n : ℕ) → length es ≤ n → IsAtMost n (account_by config es)
+account_few config es n le =
+    let few : (test : Ending → Bool) → length (filter test es) ≤ n = λ test. omega (arith, filter_few test es, le) in
+    let waiting = filter_few (λ (e : Ending). place_of e.fate == place_of InWindow) (since_given es) in
+    record {
+      came = few (λ e. not e.by_window);
+      closed = few (λ e. e.by_window);
+      ended = λ place. elim (cases_lt place 9) [
+        | inl less ↦ All-map (λ number. number ≤ n) (λ step. number_at step es) all_steps
+            (λ k d below. few (λ e. place_of e.fate == place_of (get_or all_steps k d))) place 0 less
+        | inr past ↦ rw (get_or_past (map (λ step. number_at step es) all_steps) place 0 past) (omega arith)
+      ];
+      waiting = omega (arith, waiting, since_few es, le);
+      stored = few (is_stored config);
+    }
+
 -- the accounts of so many endings have no number above that
 pub accounts_few : {A : Type 0} {config : Parts} (f : A → Ending) (told : List A) (i : ℕ) {accounts : List Account} → i ≤ length told
     → AreOf config (reverse (map f (take i told))) accounts
-    → (k : ℕ) → k < length accounts → IsAtMost i i i (kept_at accounts k)
+    → (k : ℕ) → k < length accounts → IsAtMost i (kept_at accounts k)
 accounts_few {config = config} f told i le of k less =
     let es = reverse (map f (take i told)) in
-    let own = filter (λ (one : Ending). is_of k one.item) es in
     let few = filter_few (λ (one : Ending). is_of k one.item) es in
-    grind (arith, common_steps, few, length-take-le i told le, of.each k less, tally_few config own)
+    let count : length es ≤ i = grind (arith, common_steps, length-take-le i told le) in
+    rw (of.each k less) (account_few config (filter (λ (one : Ending). is_of k one.item) es) i (omega (arith, few, count)))
 
 -- with one ending more
 pub accounts_more : {config : Parts} {old new : List Account} {es : List Ending} (e : Ending) (stored : Bool) → stored ≡ is_stored config e
     → length new ≡ length old
-    → ((k : ℕ) → k < length old → kept_at new k ≡ (if e.item.event == k
-    then with_stored stored (with_fate e.fate (with_one e.by_window (kept_at old k))) else kept_at old k))
+    → ((k : ℕ) → k < length old → kept_at new k ≡ (if e.item.event == k then with_ending stored e (kept_at old k) else kept_at old k))
     → AreOf config es old → AreOf config (e ∷ es) new
-accounts_more {config} {old} {new} {es} e stored is count each of =
-    record { events = count ∙ of.events; each = λ k less. grind (arith, each k, is, of.each k, own_more config k e es, count) }
+accounts_more {config} {old} {new} {es} e stored is count each of = record {
+  events = count ∙ of.events;
+  each = λ k less. grind (arith, each k, is, of.each k, account_more config e (filter (λ (one : Ending). is_of k one.item) es), count);
+}
+
+-- one piece more of those that are put
+pub pieces_more : {A : Type 0} (f : A → List ℕ) (xs : List A) (i : ℕ) (d : A) (start : List ℕ) {out new : List ℕ} → i < length xs
+    → out ≡ start ++ flat_map f (take i xs) → new ≡ out ++ f (get_or xs i d) → new ≡ start ++ flat_map f (take (i + 1) xs)
+pieces_more f xs i d start less was is = rw (is, was, take_more xs i d less) (flat_map_more f start (take i xs) (get_or xs i d))
 
 -- ---- context data that are missing
 

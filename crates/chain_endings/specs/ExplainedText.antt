@@ -1,13 +1,13 @@
 -- The explained journal: each line of a journal, with what became of its item, and the accounts of the events.
 -- Source: the text formats of this project (docs/FORMATS.md).
-use Rattle.std.specs.Prelude.{◌≡◌, ℕ, ◌==◌, ◌++◌, ◌∷◌, Bool, true, false, List, [], codes, decimal, filter, length, map, Option, Some, None, reverse, option_to_list, if◌then◌else◌}
+use Rattle.std.specs.Prelude.{◌≡◌, ℕ, ◌==◌, ◌++◌, ◌∷◌, Bool, true, false, List, [], codes, decimal, filter, flat_map, length, map, Option, Some, None, reverse, option_to_list, if◌then◌else◌}
 use Rattle.ids_types.specs.{Turn, entries_of}
 use Rattle.ids_types.specs.declared.entry.Act.{Act}
 use Rattle.ids_types.specs.declared.entry.Act.TheVariants.{Report}
 use Rattle.ids_types.specs.declared.entry.Carried.TheVariants.{Missing}
 use Rattle.ids_types.specs.declared.entry.Entry.{Entry}
 use Rattle.ids_config.specs.Parts.{Parts, event_at, internal_of}
-use Rattle.chain_spec.specs.{account_of, events_in, fate_name, Ending, ending_at, is_stored, heads_of, Moment, act_moment, closings, head_moment, moments, with_all}
+use Rattle.chain_spec.specs.{account_of, all_steps, ended_at, events_in, fate_name, Ending, ending_at, is_stored, heads_of, Moment, act_moment, closings, head_moment, moments, with_all}
 use Rattle.chain_spec.specs.declared.account.Account.{Account}
 use Rattle.text_spec.specs.{Told, begins, enters, loses, line_for, absent, space, text_of}
 
@@ -93,14 +93,16 @@ pub record Pushes (old piece new : List ℕ) : Type 0 where
 abbrev pub named : List ℕ → ℕ → List ℕ
 named name number = field name ++ field (decimal number)
 
+-- how many ended at each step
+abbrev pub step_fields : Account → List ℕ
+step_fields account = flat_map (λ step. named (fate_name step) (ended_at step account)) all_steps
+
 -- the numbers of an account, and how many context data are missing
 abbrev pub account_fields : Account → ℕ → List ℕ
 account_fields account missing =
-    named (codes "came") account.came ++ named (codes "closed") account.closed ++ named (codes "mode") account.mode
-    ++ named (codes "block") account.block ++ named (codes "nth") account.nth ++ named (codes "aggregate") account.aggregate
-    ++ named (codes "threshold") account.threshold ++ named (codes "unsent") account.unsent ++ named (codes "rate") account.rate
-    ++ named (codes "traffic") account.traffic ++ named (codes "sent") account.sent ++ named (codes "open") account.waiting
-    ++ named (codes "stored") account.stored ++ named (codes "missing") missing
+    named (codes "came") account.came ++ named (codes "closed") account.closed
+    ++ step_fields account
+    ++ named (codes "open") account.waiting ++ named (codes "stored") account.stored ++ named (codes "missing") missing
 
 -- `A EVENT ID SENSOR`, and the account of the event
 abbrev pub account_line : Parts → List Turn → ℕ → List ℕ

@@ -1,16 +1,17 @@
 -- Endings in the order of time, as a listener hears them, and accounts as the code keeps them.
-use Rattle.std.specs.Prelude.{◌≡◌, ℕ, ◌++◌, Bool, true, false, List, [], ◌∷◌, map, None, option_to_list, reverse, ◌≤◌, ◌<◌, length, filter, slice_index_or}
+use Rattle.std.specs.Prelude.{◌≡◌, ℕ, ◌++◌, Bool, true, false, List, ◌∷◌, map, None, option_to_list, replicate, reverse, ◌≤◌, ◌<◌, ◌+◌, ◌==◌, length, filter, slice_index_or, slice_set, if◌then◌else◌}
 use Rattle.std.proofs.Common.{ap, sym, ◌∙◌}
 use Rattle.ids_types.specs.{Turn}
 use Rattle.ids_types.specs.declared.entry.Act.{Act}
 use Rattle.ids_types.specs.declared.entry.Act.TheVariants.{Report}
 use Rattle.ids_types.specs.declared.entry.Entry.{Entry}
 use Rattle.ids_config.specs.Parts.{Parts}
-use Rattle.chain_spec.specs.{Ending, ending_at, endings, Moment, act_moment, turn_moments, nothing, tally, is_of}
+use Rattle.chain_spec.specs.{Ending, ending_at, endings, Moment, act_moment, turn_moments, account_by, ended_at, place_of, is_of}
 use Rattle.event_chain.specs.Fates.{bare, ending_of}
 use Rattle.chain_endings.specs.ExplainedText.{endings_along, is_missing}
 use Rattle.chain_endings.specs.declared.explaining.Listener.{Listener}
 use Rattle.chain_spec.specs.declared.account.Account.{Account}
+use Rattle.chain_spec.specs.declared.fate.Fate.TheVariants.{InWindow}
 
 -- the endings at the moments of a turn after these
 abbrev pub turn_endings : Parts → List Moment → Turn → List Ending
@@ -41,22 +42,27 @@ silent listener config before moment hears none kept =
 
 -- ---- accounts as the code keeps them
 
--- no number of items is above the first number, none of fates above the second, and none of what is stored above
--- the third
-pub record IsAtMost (items fates kept : ℕ) (account : Account) : Type 0 where
-  pub came : account.came ≤ items
-  pub closed : account.closed ≤ items
-  pub mode : account.mode ≤ fates
-  pub block : account.block ≤ fates
-  pub nth : account.nth ≤ fates
-  pub aggregate : account.aggregate ≤ fates
-  pub threshold : account.threshold ≤ fates
-  pub unsent : account.unsent ≤ fates
-  pub rate : account.rate ≤ fates
-  pub traffic : account.traffic ≤ fates
-  pub sent : account.sent ≤ fates
-  pub waiting : account.waiting ≤ fates
-  pub stored : account.stored ≤ kept
+-- the account of no items
+abbrev pub nothing : Account
+nothing = record { came = 0; closed = 0; ended = replicate 9 0; waiting = 0; stored = 0 }
+
+-- with an ending more, whose item is stored or not
+abbrev pub with_ending : Bool → Ending → Account → Account
+with_ending stored one account = record {
+  came = if one.by_window then account.came else account.came + 1;
+  closed = if one.by_window then account.closed + 1 else account.closed;
+  ended = slice_set account.ended (place_of one.fate) (ended_at one.fate account + 1);
+  waiting = if one.by_window then 0 else if place_of one.fate == place_of InWindow then account.waiting + 1 else account.waiting;
+  stored = if stored then account.stored + 1 else account.stored;
+}
+
+-- none of its numbers is above this one
+pub record IsAtMost (most : ℕ) (account : Account) : Type 0 where
+  pub came : account.came ≤ most
+  pub closed : account.closed ≤ most
+  pub ended : (place : ℕ) → slice_index_or account.ended place 0 ≤ most
+  pub waiting : account.waiting ≤ most
+  pub stored : account.stored ≤ most
 
 -- the account of event k
 abbrev pub kept_at : List Account → ℕ → Account
@@ -65,7 +71,7 @@ kept_at accounts k = slice_index_or accounts k nothing
 -- the accounts, one for each event, are those of these endings, the newest of which stands first
 pub record AreOf (config : Parts) (endings : List Ending) (accounts : List Account) : Type 0 where
   pub events : length accounts ≡ length config.events
-  pub each : (k : ℕ) → k < length accounts → kept_at accounts k ≡ tally config (filter (λ one. is_of k one.item) endings)
+  pub each : (k : ℕ) → k < length accounts → kept_at accounts k ≡ account_by config (filter (λ one. is_of k one.item) endings)
 
 -- the numbers, one for each event, are those of the reports among these entries that lost their context data
 abbrev pub CountsMissing : List (Entry (List ℕ)) → List ℕ → Type 0

@@ -2,9 +2,9 @@
 
 ghost use Rattle.std.specs.Prelude.{◌≡◌, ◌<◌, ◌^◌, ℕ, map, reverse, length, IfOk, not, ◌==◌, ◌&&◌, if◌then◌else◌, ◌+◌, ◌++◌, ◌∷◌, [], List, slice_index_or, OnOk, decimal, codes};
 ghost use Rattle.ids_config.specs.Parts.{event_at};
-ghost use Rattle.chain_spec.specs.{nothing, with_one, with_fate, with_stored, is_stored, events_in, moments};
+ghost use Rattle.chain_spec.specs.{is_stored, events_in, moments};
 ghost use Rattle.event_chain.specs.Fates.{ending_of};
-ghost use Rattle.chain_endings.specs.{AreOf, IsAtMost, kept_at, CountsMissing, account_fields, account_line, field, is_missing, told_in};
+ghost use Rattle.chain_endings.specs.{AreOf, IsAtMost, kept_at, nothing, with_ending, CountsMissing, account_fields, account_line, field, is_missing, told_in};
 ghost use Rattle.ids_types.specs.declared.entry.Entry.{Entry};
 ghost use Rattle.ids_types.specs.{entries_of, plain_entry};
 ghost use Rattle.text_spec.specs.Words.{line_feed, text_of};
@@ -24,66 +24,26 @@ fn nothing() -> Account
     Account {
         came: 0,
         closed: 0,
-        mode: 0,
-        block: 0,
-        nth: 0,
-        aggregate: 0,
-        threshold: 0,
-        unsent: 0,
-        rate: 0,
-        traffic: 0,
-        sent: 0,
+        ended: [0; 9],
         waiting: 0,
         stored: 0,
     }
 }
 
-/// With an ending more, whose item is stored or not.
+/// Adds an ending, whose item is stored or not.
 fn add(account: &mut Account, ending: &Ending, stored: bool)
-    requires { (n : ℕ) × (n < 2 ^ 63) × IsAtMost n n n account.old }
-    ensures { account.new
-        ≡ with_stored stored (with_fate ending.now.fate (with_one ending.now.by_window account.old)) }
+    requires { (n : ℕ) × (n < 2 ^ 63) × IsAtMost n account.old }
+    ensures { account.new ≡ with_ending stored (ending_of ending.now) account.old }
 {
-    add_one(account, ending.by_window);
-    add_fate(account, ending.fate);
-    if stored {
-        account.stored += 1;
-    }
-}
-
-/// Adds an item that a window gave, which closed by that, or one that came.
-fn add_one(account: &mut Account, by_window: bool)
-    requires came { account.old.came < 2 ^ 63 }
-    requires closed { account.old.closed < 2 ^ 63 }
-    ensures { account.new ≡ with_one by_window account.old }
-{
-    if by_window {
+    account.ended[ending.fate.place()] += 1;
+    if ending.by_window {
         account.closed += 1;
         account.waiting = 0;
     } else {
         account.came += 1;
+        account.waiting += u64::from(ending.fate == Fate::InWindow);
     }
-}
-
-/// Adds one of this fate.
-fn add_fate(account: &mut Account, fate: Fate)
-    requires { (n k : ℕ) × (n < 2 ^ 63) × IsAtMost k n n account.old }
-    ensures { account.new ≡ with_fate fate account.old }
-{
-    match fate {
-        Fate::AtMode => account.mode += 1,
-        Fate::AtBlock => account.block += 1,
-        Fate::AtNth => account.nth += 1,
-        Fate::InWindow => {
-            account.aggregate += 1;
-            account.waiting += 1;
-        }
-        Fate::AtThreshold => account.threshold += 1,
-        Fate::AtSend => account.unsent += 1,
-        Fate::AtRate => account.rate += 1,
-        Fate::AtTraffic => account.traffic += 1,
-        Fate::Sent => account.sent += 1,
-    }
+    account.stored += u64::from(stored);
 }
 
 /// Whether the item of an ending is stored.
@@ -121,11 +81,11 @@ pub(crate) fn accounts_of(
 
 /// Adds an ending to the account of its event.
 fn add_to(accounts: &mut Vec<Account>, ending: &Ending, stored: bool)
-    requires { (n : ℕ) × (n < 2 ^ 63) × ((k : ℕ) → k < length accounts.old.items → IsAtMost n n n (kept_at accounts.old.items k)) }
+    requires { (n : ℕ) × (n < 2 ^ 63) × ((k : ℕ) → k < length accounts.old.items → IsAtMost n (kept_at accounts.old.items k)) }
     ensures len { length accounts.new.items ≡ length accounts.old.items }
     ensures each { (k : ℕ) → k < length accounts.old.items → kept_at accounts.new.items k
-        ≡ (if ending.now.event.0 == k then with_stored stored (with_fate ending.now.fate
-        (with_one ending.now.by_window (kept_at accounts.old.items k))) else kept_at accounts.old.items k) }
+        ≡ (if ending.now.event.0 == k then with_ending stored (ending_of ending.now) (kept_at accounts.old.items k)
+        else kept_at accounts.old.items k) }
 {
     let event = usize::from(ending.event.0);
     if event < accounts.len() {

@@ -3,10 +3,10 @@
 ghost use Rattle.std.specs.Prelude.{◌≡◌, ◌++◌, ◌∷◌, [], OnOk, codes, decimal};
 ghost use Rattle.event_chain.specs.Fates.{ending_of};
 ghost use Rattle.text_spec.specs.Words.{line_feed};
-ghost use Rattle.chain_endings.specs.ExplainedText.{Pushes, account_fields, fate_fields, field, given_line, letter_of, named, stored_word};
+ghost use Rattle.chain_endings.specs.ExplainedText.{Pushes, account_fields, fate_fields, field, given_line, letter_of, named, step_fields, stored_word};
 
 use crate::account::is_stored;
-use chain_spec::Account;
+use chain_spec::{Account, FATES};
 use event_chain::Ending;
 use ids_config::ConfigParts;
 use ids_types::NoMemory;
@@ -69,18 +69,20 @@ pub(crate) fn push_numbers(
 {
     push_named(out, b"came", account.came)?;
     push_named(out, b"closed", account.closed)?;
-    push_named(out, b"mode", account.mode)?;
-    push_named(out, b"block", account.block)?;
-    push_named(out, b"nth", account.nth)?;
-    push_named(out, b"aggregate", account.aggregate)?;
-    push_named(out, b"threshold", account.threshold)?;
-    push_named(out, b"unsent", account.unsent)?;
-    push_named(out, b"rate", account.rate)?;
-    push_named(out, b"traffic", account.traffic)?;
-    push_named(out, b"sent", account.sent)?;
+    push_steps(out, account)?;
     push_named(out, b"open", account.waiting)?;
     push_named(out, b"stored", account.stored)?;
     push_named(out, b"missing", missing)?;
+    Ok(())
+}
+
+/// Appends how many ended at each step.
+fn push_steps(out: &mut Vec<u8>, account: &Account) -> Result<(), NoMemory>
+    ensures { OnOk result (Pushes out.old.items (step_fields account.now) out.new.items) }
+{
+    for fate in &FATES {
+        push_named(out, fate.name().as_bytes(), account.ended[fate.place()])?;
+    }
     Ok(())
 }
 

@@ -11,7 +11,6 @@ pub mod Names
 pub mod QuietLemmas
 pub mod StageLemmas
 pub mod SumLemmas
-pub mod TallyLemmas
 pub mod WaitingLemmas
 pub mod WindowsLemmas
 mod WorkedEndings

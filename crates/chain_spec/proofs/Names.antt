@@ -17,7 +17,7 @@ pub use Rattle.ids_types.specs.declared.entry.Entry.{Entry}
 pub use Rattle.ids_types.specs.declared.mode.Mode.{Mode}
 pub use Rattle.ids_types.specs.declared.mode.Mode.TheVariants.{Off, Brief, Detailed, BriefBypassing, DetailedBypassing}
 pub use Rattle.chain_spec.specs.declared.account.Account.{Account}
-pub use Rattle.chain_spec.specs.{account_of, number_of, tally, with_fate, with_one, first_from, closed_item, tick_of, arrival_of, every, closed_items, reaching, Call, Arrival, closes_due, arrived, closing_ticks, sent, held, qualified_of, messages, ends, handed, handed_on, held_count, sent_at, IsCausal, windows_in, is_due, newest_where, due_item, closing_item, Ending, Fate, AtBlock, AtMode, AtNth, AtRate, AtThreshold, AtTraffic, endings, InWindow, is_limited, is_message, is_qualified, items_with, Sent, qualified_fate, AtSend, aggregated_at, gated, aggregated, thresholded, gated_at, thresholded_at, filtered_at, qualified_at, counted, qualified, mode_at, item_in, arrivals, sampled_at, sampled, is_filtered, is_bypassing, arrival_at, bypassing_at, BeginsWith, EndsWith, Grows, GrowsAtEnd, heads_of, Item, is_of, item_at, told_of, passes_rate, passes_traffic, sent_of, message_of, spelled, weighed, Moment, closes, comes, closings, turn_moments, moments, head_moment, act_moment, where_true, added, with_all, behind, Stage, Window, EndBy, opened, extended, covers, with_item, windows_of, members, in_newest, after_ending, comers, ending_at, is_stored, Head, state_at, call_tick, arrives, AreConfigured, events_in, limited_events_in, items_stored, stored_of, stored, TellsWindows, nothing, with_ending, with_stored}
+pub use Rattle.chain_spec.specs.{account_of, account_by, ended_at, number_at, number_of, first_from, closed_item, tick_of, arrival_of, every, closed_items, reaching, Call, Arrival, closes_due, arrived, closing_ticks, sent, held, qualified_of, messages, ends, handed, handed_on, held_count, sent_at, IsCausal, windows_in, is_due, newest_where, due_item, closing_item, Ending, Fate, AtBlock, AtMode, AtNth, AtRate, AtThreshold, AtTraffic, endings, InWindow, is_limited, is_message, is_qualified, items_with, Sent, qualified_fate, AtSend, aggregated_at, gated, aggregated, thresholded, gated_at, thresholded_at, filtered_at, qualified_at, counted, qualified, mode_at, item_in, arrivals, sampled_at, sampled, is_filtered, is_bypassing, arrival_at, bypassing_at, BeginsWith, EndsWith, Grows, GrowsAtEnd, heads_of, Item, is_of, item_at, told_of, passes_rate, passes_traffic, sent_of, message_of, spelled, weighed, Moment, closes, comes, closings, turn_moments, moments, head_moment, act_moment, where_true, added, with_all, behind, Stage, Window, EndBy, opened, extended, covers, with_item, windows_of, members, in_newest, comers, ending_at, is_stored, Head, state_at, call_tick, arrives, AreConfigured, events_in, limited_events_in, items_stored, stored_of, stored, TellsWindows, place_of}
 pub use Rattle.ids_config.proofs.Plain.{instance_18}
 pub use Rattle.std.proofs.lemmas.Bool.Decides.{nat_tests}
 pub use Rattle.chain_spec.specs.Openers.{openers, IsBeyond, AreApart}

@@ -1,9 +1,12 @@
 -- The accounts of all events together.
-use Rattle.chain_spec.proofs.Names.{nat_le, ◌≡◌, ℕ, zero, suc, ◌+◌, ◌<◌, ◌==◌, ◌&&◌, not, Bool, true, List, [], ◌∷◌, length, map, filter, if◌then◌else◌, refl, sym, ap, ◌∙◌, arith, inl, inr, sum_by, AllByRecursion, range_with_len, plain_event, Turn, Parts, event_at, sent, held, handed, handed_on, held_count, gated, Item, is_of, Moment, closes, comes, sum_by-cons, is_given, Account, tally, account_of, number_of, Fate, Ending, endings, is_qualified, is_limited, is_message, items_with, qualified, cases_Bool, sum, cases_lt, get_or_past, nat_lt, nat_tests, AreConfigured, events_in, limited_events_in, items_stored, stored_of, stored, nothing, with_ending, is_stored}
+use Rattle.chain_spec.proofs.Names.{nat_le, ◌≡◌, ℕ, zero, suc, ◌+◌, ◌<◌, ◌==◌, ◌&&◌, not, Bool, true, List, [], ◌∷◌, length, map, filter, if◌then◌else◌, refl, sym, ap, ◌∙◌, arith, inl, inr, sum_by, AllByRecursion, range_with_len, plain_event, Turn, Parts, event_at, sent, held, handed, handed_on, held_count, gated, Item, is_of, Moment, closes, comes, sum_by-cons, is_given, account_of, ended_at, number_at, place_of, AtRate, AtTraffic, Sent, number_of, Fate, Ending, endings, is_qualified, is_limited, is_message, items_with, qualified, cases_Bool, sum, cases_lt, get_or_past, nat_lt, nat_tests, AreConfigured, events_in, limited_events_in, items_stored, stored_of, stored, is_stored}
 use Rattle.chain_spec.proofs.AggregationLemmas.{given_own}
 use Rattle.chain_spec.proofs.EndingsLemmas.{qualified_told, sent_told, held_told}
 use Rattle.chain_spec.proofs.GrowthLemmas.{held_counted}
-use Rattle.chain_spec.proofs.TallyLemmas.{one_more, counts_one, number_told}
+
+-- one more, if it is one
+abbrev one_more : Bool → ℕ → ℕ
+one_more is n = if is then suc n else n
 
 -- ---- sums over events
 
@@ -30,6 +33,16 @@ filter_all : {A : Type 0} (xs : List A) → filter (λ x. true) xs ≡ xs
 filter_all [] = refl
 filter_all (x ∷ xs) = ap (λ ys. x ∷ ys) (filter_all xs)
 
+-- the steps of those that are sent and held back
+is_sent : (fate : Fate) → (place_of fate == place_of Sent) ≡ is_message fate
+is_sent Sent = refl
+is_sent _ = refl
+
+is_held : (fate : Fate) → (if place_of fate == place_of AtRate then true else place_of fate == place_of AtTraffic) ≡ is_limited fate
+is_held AtRate = refl
+is_held AtTraffic = refl
+is_held _ = refl
+
 module _ (config : Parts) where
   -- the events of endings are configured
   abbrev AreWithin : List Ending → Type 0
@@ -47,36 +60,35 @@ module _ (config : Parts) where
   within (_ ∷ before) all = within before all
 
   -- over events that pass a test, a number that endings of some fate make one more is that of the items with such a fate
-  sum_told : (test : ℕ → Bool) (is_one : Fate → Bool) (number : Account → ℕ) → number nothing ≡ 0
-      → ((ending : Ending) (account : Account) → number (with_ending config ending account) ≡ one_more (is_one ending.fate) (number account))
+  sum_told : (test : ℕ → Bool) (is_one : Fate → Bool) (number : List Ending → ℕ) → number [] ≡ 0
+      → ((ending : Ending) (told : List Ending) → number (ending ∷ told) ≡ one_more (is_one ending.fate) (number told))
       → (told : List Ending) → AreWithin told
-      → sum_by (λ event. number (tally config (filter (λ one. is_of event one.item) told))) (filter test (events_in config))
+      → sum_by (λ event. number (filter (λ one. is_of event one.item) told)) (filter test (events_in config))
       ≡ length (filter (λ item. test item.event) (items_with is_one told))
   sum_told test is_one number none more [] all = rw none (sum_of_none (filter test (events_in config)))
   sum_told test is_one number none more (ending ∷ told) all =
       let rest = sum_told test is_one number none more told all.1 in
-      let among = sum_among test (λ e. number (tally config (filter (λ one. is_of e one.item) told)))
-      (λ e. number (tally config (filter (λ one. is_of e one.item) (ending ∷ told)))) ending.item.event (is_one ending.fate)
+      let among = sum_among test (λ e. number (filter (λ one. is_of e one.item) told))
+      (λ e. number (filter (λ one. is_of e one.item) (ending ∷ told))) ending.item.event (is_one ending.fate)
       (λ e. elim (cases_Bool (ending.item.event == e))
-      [ inl is ↦ rw is (more ending (tally config (filter (λ one. is_of e one.item) told))) | inr is ↦ rw is refl ])
+      [ inl is ↦ rw is (more ending (filter (λ one. is_of e one.item) told)) | inr is ↦ rw is refl ])
       (length config.events) 0 in
       grind (arith, nat_tests, among, all.0, rest)
 
   pub sent_over : (moments : List Moment) → AreConfigured config moments
-      → sum_by (λ event. (account_of config event moments).sent) (events_in config) ≡ length (sent config (qualified config moments))
+      → sum_by (λ event. ended_at Sent (account_of config event moments)) (events_in config) ≡ length (sent config (qualified config moments))
   sent_over moments all =
-      ap (sum_by (λ event. (account_of config event moments).sent)) (sym (filter_all (events_in config)))
-      ∙ sum_told (λ event. true) is_message (λ account. account.sent) refl
-      (λ ending account. (counts_one ending.by_window ending.fate (is_stored config ending) account).sent)
+      ap (sum_by (λ event. ended_at Sent (account_of config event moments))) (sym (filter_all (events_in config)))
+      ∙ sum_told (λ event. true) is_message (number_at Sent) refl (λ ending told. rw (← is_sent ending.fate) (grind arith))
       (endings config moments) (within moments all)
       ∙ ap length (filter_all (items_with is_message (endings config moments)) ∙ sent_told config moments)
 
   pub limited_over : (moments : List Moment) → AreConfigured config moments
-      → sum_by (λ event. (account_of config event moments).rate + (account_of config event moments).traffic) (limited_events_in config)
+      → sum_by (λ event. ended_at AtRate (account_of config event moments) + ended_at AtTraffic (account_of config event moments)) (limited_events_in config)
       ≡ length (held config (qualified config moments))
   limited_over moments all =
-      sum_told (λ event. not (is_given config.limited event)) is_limited (λ account. account.rate + account.traffic) refl
-      (λ ending account. (counts_one ending.by_window ending.fate (is_stored config ending) account).limited)
+      sum_told (λ event. not (is_given config.limited event)) is_limited (λ told. number_at AtRate told + number_at AtTraffic told) refl
+      (λ ending told. rw (← is_held ending.fate) (grind (arith, nat_tests)))
       (endings config moments) (within moments all)
       ∙ ap length (held_told config moments)
 
@@ -105,11 +117,7 @@ module _ (config : Parts) where
 
   pub stored_counted : (event : ℕ) (moments : List Moment) → (account_of config event moments).stored
       ≡ (if (event_at config event).store && not (config.memory == 0) then number_of event (qualified config moments) else 0)
-  stored_counted event moments =
-      number_told config (λ account. account.stored) (is_stored config) refl
-      (λ ending account. (counts_one ending.by_window ending.fate (is_stored config ending) account).stored)
-      (filter (λ one. is_of event one.item) (endings config moments))
-      ∙ rw (← qualified_told config moments) (number_stored event (endings config moments))
+  stored_counted event moments = rw (← qualified_told config moments) (number_stored event (endings config moments))
 
 -- what is sent and held back of all events
 pub ruleset sum_laws = (qualified_told, sent_told, held_told, sent_over, limited_over, handed_sums)

@@ -1,76 +1,45 @@
 -- The account of an event: how many of its items came, and what became of them.
 -- That the numbers are kept, and which, is this project's own.
-use Rattle.std.specs.Prelude.{◌≡◌, ℕ, ◌+◌, ◌<◌, not, Bool, true, false, List, [], ◌∷◌, length, filter, filter_map, flat_map, sum_by, option_to_list, Option, Some, None, if◌then◌else◌}
+use Rattle.std.specs.Prelude.{◌≡◌, ℕ, ◌+◌, ◌<◌, ◌==◌, not, List, [], ◌∷◌, length, map, filter, filter_map, flat_map, sum_by, slice_index_or, option_to_list, Option, Some, None, if◌then◌else◌}
 use Rattle.std.specs.List.{AllByRecursion, range_with_len}
 use Rattle.ids_config.specs.Parts.{Parts, event_at, is_given}
 use Rattle.ids_config.specs.declared.parts.Aggregate.{Aggregate}
 use Rattle.chain_spec.specs.Calls.{Call, Arrival}
 use Rattle.chain_spec.specs.Closing.{is_open, open_window, windows_in}
 use Rattle.chain_spec.specs.Endings.{Ending, endings, is_stored}
-use Rattle.chain_spec.specs.Fates.{Fate, AtMode, AtBlock, AtNth, InWindow, AtThreshold, AtSend, AtRate, AtTraffic, Sent}
+use Rattle.chain_spec.specs.Fates.{Fate, InWindow, place_of, all_steps}
 use Rattle.chain_spec.specs.Filtering.{gated}
-use Rattle.chain_spec.specs.Items.{Item, is_of, number_of}
+use Rattle.chain_spec.specs.Items.{Item, is_of}
 use Rattle.chain_spec.specs.Moments.{Moment, comes}
 use Rattle.chain_spec.specs.Windows.{Window, members}
 use Rattle.chain_spec.specs.declared.account.Account.{Account}
 
--- the account of no items
-abbrev pub nothing : Account
-nothing = record {
-  came = 0;
-  closed = 0;
-  mode = 0;
-  block = 0;
-  nth = 0;
-  aggregate = 0;
-  threshold = 0;
-  unsent = 0;
-  rate = 0;
-  traffic = 0;
-  sent = 0;
-  waiting = 0;
-  stored = 0;
+-- how many of these endings are at a step
+abbrev pub number_at : Fate → List Ending → ℕ
+number_at step told = length (filter (λ one. place_of one.fate == place_of step) told)
+
+-- those since a window last gave an item
+abbrev pub since_given : List Ending → List Ending
+since_given [] = []
+since_given (one ∷ before) = if one.by_window then [] else one ∷ since_given before
+
+-- the account of the endings of an event
+abbrev pub account_by : Parts → List Ending → Account
+account_by config told = record {
+  came = length (filter (λ one. not one.by_window) told);
+  closed = length (filter (λ one. one.by_window) told);
+  ended = map (λ step. number_at step told) all_steps;
+  waiting = number_at InWindow (since_given told);
+  stored = length (filter (is_stored config) told);
 }
 
--- with one item more: one that a window gave, which closed by that, or one that came
-abbrev pub with_one : Bool → Account → Account
-with_one true account = record account { closed = account.closed + 1; waiting = 0 }
-with_one false account = record account { came = account.came + 1 }
-
--- with one of this fate more
-abbrev pub with_fate : Fate → Account → Account
-with_fate AtMode account = record account { mode = account.mode + 1 }
-with_fate AtBlock account = record account { block = account.block + 1 }
-with_fate AtNth account = record account { nth = account.nth + 1 }
-with_fate InWindow account = record account { aggregate = account.aggregate + 1; waiting = account.waiting + 1 }
-with_fate AtThreshold account = record account { threshold = account.threshold + 1 }
-with_fate AtSend account = record account { unsent = account.unsent + 1 }
-with_fate AtRate account = record account { rate = account.rate + 1 }
-with_fate AtTraffic account = record account { traffic = account.traffic + 1 }
-with_fate Sent account = record account { sent = account.sent + 1 }
-
--- with one more that is stored, where it is
-abbrev pub with_stored : Bool → Account → Account
-with_stored is account = record account { stored = if is then account.stored + 1 else account.stored }
-
--- with an ending more
-abbrev pub with_ending : Parts → Ending → Account → Account
-with_ending config ending account =
-    with_stored (is_stored config ending) (with_fate ending.fate (with_one ending.by_window account))
-
--- after a moment, which may have an ending of the event
-abbrev pub after_ending : Parts → ℕ → Option Ending → Account → Account
-after_ending config event None account = account
-after_ending config event (Some ending) account = if is_of event ending.item then with_ending config ending account else account
-
--- the account of endings
-abbrev pub tally : Parts → List Ending → Account
-tally config [] = nothing
-tally config (ending ∷ before) = with_ending config ending (tally config before)
+-- how many of an account ended at a step
+abbrev pub ended_at : Fate → Account → ℕ
+ended_at step account = slice_index_or account.ended (place_of step) 0
 
 -- the account of an event after these moments
 abbrev pub account_of : Parts → ℕ → List Moment → Account
-account_of config event moments = tally config (filter (λ one. is_of event one.item) (endings config moments))
+account_of config event moments = account_by config (filter (λ one. is_of event one.item) (endings config moments))
 
 -- ---- what the laws compare it with
 
@@ -111,7 +80,7 @@ waiting (Some setting) event calls = flat_map members (option_to_list (open_wind
 pub record TellsWindows (config : Parts) (event : ℕ) (moments : List Moment) : Type 0 where
   pub closed : (account_of config event moments).closed
       ≡ length (closed_windows (event_at config event).aggregate event (gated config moments))
-  pub joined : (account_of config event moments).aggregate
+  pub joined : ended_at InWindow (account_of config event moments)
       ≡ sum_by (λ w. length (members w)) (closed_windows (event_at config event).aggregate event (gated config moments))
       + (account_of config event moments).waiting
   pub waiting : (account_of config event moments).waiting

@@ -23,7 +23,7 @@ pub mod Stages
 pub mod Storing
 pub mod Threshold
 pub mod Windows
-pub use Rattle.chain_spec.specs.Accounts.{nothing, with_one, with_fate, with_stored, with_ending, after_ending, tally, account_of, comers, AreConfigured, events_in, limited_events_in, TellsWindows}
+pub use Rattle.chain_spec.specs.Accounts.{number_at, since_given, account_by, ended_at, account_of, comers, AreConfigured, events_in, limited_events_in, TellsWindows}
 pub use Rattle.chain_spec.specs.Aggregation.{first_kept, last_kept, kept_of, joined}
 pub use Rattle.chain_spec.specs.ByEvent.{tick_of, every, first_from, arrival_of, closed_item, closed_items, reaching}
 pub use Rattle.chain_spec.specs.Calls.{arrives, Call, closes_due, Arrival, call_tick, arrival_by, arrived, closing_by, closing_ticks}

@@ -1,20 +1,16 @@
 //! The account of an event, as plain data.
 
-/// How many items came, how many windows gave one when they closed, how many of both had each fate, how many wait in
-/// the open window, and how many are stored.
+/// What became of the items of an event.
 #[derive(Clone, Copy)]
 pub struct Account {
+    /// How many items came.
     pub came: u64,
+    /// How many windows gave one when they closed.
     pub closed: u64,
-    pub mode: u64,
-    pub block: u64,
-    pub nth: u64,
-    pub aggregate: u64,
-    pub threshold: u64,
-    pub unsent: u64,
-    pub rate: u64,
-    pub traffic: u64,
-    pub sent: u64,
+    /// How many of both ended at each step, by its place.
+    pub ended: [u64; 9],
+    /// How many are in the open window.
     pub waiting: u64,
+    /// How many are stored.
     pub stored: u64,
 }

@@ -1,7 +1,7 @@
 //! Where the way of an item ends, and the words for it.
 
-ghost use Rattle.std.specs.Prelude.{◌≡◌};
-ghost use Rattle.chain_spec.specs.Fates.{fate_name, is_qualified};
+ghost use Rattle.std.specs.Prelude.{◌≡◌, ◌<◌};
+ghost use Rattle.chain_spec.specs.Fates.{fate_name, is_qualified, place_of};
 
 /// Where the way of an item ends: at the step that holds it, in the order of the steps (AUTOSAR SWS Intrusion Detection
 /// System Manager, filter chain), or in a message.
@@ -27,7 +27,28 @@ pub enum Fate {
     Sent,
 }
 
+/// Every fate, in the order of the steps.
+pub const FATES: [Fate; 9] = [
+    Fate::AtMode,
+    Fate::AtBlock,
+    Fate::AtNth,
+    Fate::InWindow,
+    Fate::AtThreshold,
+    Fate::AtSend,
+    Fate::AtRate,
+    Fate::AtTraffic,
+    Fate::Sent,
+];
+
 impl Fate {
+    /// The place of its step on the way, from 0.
+    pub fn place(self) -> usize
+        ensures place { result ≡ place_of self }
+        ensures below { result < 9 }
+    {
+        self as usize
+    }
+
     /// The word for it in texts.
     pub fn name(self) -> &'static str
         ensures { result.now ≡ fate_name self }

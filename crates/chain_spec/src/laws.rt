@@ -4,7 +4,8 @@ ghost use Rattle.std.specs.Prelude.{◌≡◌, ℕ, ◌+◌, ◌<◌, ◌≤◌,
 ghost use Rattle.ids_types.specs.Turns.{Turn};
 ghost use Rattle.ids_config.specs.Parts.{Parts, event_at, is_given};
 ghost use Rattle.ids_config.specs.declared.parts.Window.{Window as Limit};
-ghost use Rattle.chain_spec.specs.{IsCausal, account_of, after_ending, comers, number_of, AreConfigured, TellsWindows, events_in, limited_events_in, tick_of, every, closed_items, reaching, candidates, sent, held, messages, ends, handed, handed_on, held_count, message_count, qualified_of, ending_at, endings, is_qualified, is_limited, is_message, items_with, items_stored, gated, aggregated, thresholded, filtered_at, qualified_at, qualified, counted, arrivals, sampled, bypassing_at, Grows, GrowsAtEnd, Item, is_of, Candidate, window_at, those_in, passes_rate, passes_traffic, is_let_out, sent_of, weighed, Moment, moments, Stage, added, behind, stored, stored_of, EndBy, opened, members, in_newest, windows_of};
+ghost use Rattle.chain_spec.specs.{IsCausal, account_of, ended_at, comers, number_of, AreConfigured, TellsWindows, events_in, limited_events_in, tick_of, every, closed_items, reaching, candidates, sent, held, messages, ends, handed, handed_on, held_count, message_count, qualified_of, ending_at, endings, is_qualified, is_limited, is_message, items_with, items_stored, gated, aggregated, thresholded, filtered_at, qualified_at, qualified, counted, arrivals, sampled, bypassing_at, Grows, GrowsAtEnd, Item, is_of, Candidate, window_at, those_in, passes_rate, passes_traffic, is_let_out, sent_of, weighed, Moment, moments, Stage, added, behind, stored, stored_of, EndBy, opened, members, in_newest, windows_of};
+ghost use Rattle.chain_spec.specs.Fates.{AtMode, AtBlock, AtNth, InWindow, AtThreshold, AtSend, AtRate, AtTraffic, Sent};
 ghost use Rattle.chain_spec.specs.Openers.{openers, IsBeyond, AreApart};
 ghost use Rattle.chain_spec.specs.Places.{placed, HaveOwnPlaces};
 ghost use Rattle.chain_spec.specs.Quiet.{HaveIntervals, IsQuiet, TellTheSame};
@@ -122,23 +123,23 @@ pub fn the_numbers_are_the_sizes_of_the_stages()
         let account = account_of config event moments in
         let bypassing = number_of event (added (bypassing_at config) moments) in
         number_of event (comers moments)
-        ≡ account.mode + account.block + bypassing + length (arrivals config event moments) }
+        ≡ ended_at AtMode account + ended_at AtBlock account + bypassing + length (arrivals config event moments) }
     ensures nth { (config : Parts) (event : ℕ) (moments : List Moment) →
         let account = account_of config event moments in
-        length (arrivals config event moments) ≡ account.nth + length (sampled config event moments) }
+        length (arrivals config event moments) ≡ ended_at AtNth account + length (sampled config event moments) }
     ensures aggregation { (config : Parts) (event : ℕ) (moments : List Moment) →
         let account = account_of config event moments in
         length (sampled config event moments) + account.closed
-        ≡ account.aggregate + number_of event (aggregated config moments) }
+        ≡ ended_at InWindow account + number_of event (aggregated config moments) }
     ensures threshold { (config : Parts) (event : ℕ) (moments : List Moment) →
         let account = account_of config event moments in
         let bypassing = number_of event (added (bypassing_at config) moments) in
         number_of event (aggregated config moments) + bypassing
-        ≡ account.threshold + number_of event (qualified config moments) }
+        ≡ ended_at AtThreshold account + number_of event (qualified config moments) }
     ensures sending { (config : Parts) (event : ℕ) (moments : List Moment) →
         let account = account_of config event moments in
         number_of event (qualified config moments)
-        ≡ account.unsent + account.rate + account.traffic + account.sent }
+        ≡ ended_at AtSend account + ended_at AtRate account + ended_at AtTraffic account + ended_at Sent account }
 {}
 
 /// Nothing is left out. Each item that comes is told once, in its place, with one fate. What came of an event,
@@ -148,16 +149,11 @@ pub fn the_fates_add_up()
     ensures each { (config : Parts) (moments : List Moment) →
         map (λ one. counted one.item) (filter (λ one. not one.by_window) (endings config moments))
         ≡ map counted (comers moments) }
-    ensures more { (config : Parts) (event : ℕ) (moment : Moment) (before : List Moment) →
-        account_of config event (moment ∷ before)
-        ≡ after_ending config event (ending_at config before moment) (account_of config event before) }
     ensures came { (config : Parts) (event : ℕ) (moments : List Moment) →
         (account_of config event moments).came ≡ number_of event (comers moments) }
     ensures all { (config : Parts) (event : ℕ) (moments : List Moment) →
         let account = account_of config event moments in
-        account.came + account.closed
-        ≡ account.mode + account.block + account.nth + account.aggregate + account.threshold
-        + account.unsent + account.rate + account.traffic + account.sent }
+        account.came + account.closed ≡ sum account.ended }
 {}
 
 /// What is told as sent are the messages. What is told as held back by a limit is what the turns hand on, but for the
@@ -172,10 +168,10 @@ pub fn what_is_told_as_sent_and_held_back()
         filter (λ item. not (is_given config.limited item.event)) (items_with is_limited (endings config moments))
         ≡ held config (qualified config moments) }
     ensures messages { (config : Parts) (turns : List Turn) → AreConfigured config (moments config turns) →
-        sum_by (λ event. (account_of config event (moments config turns)).sent) (events_in config)
+        sum_by (λ event. ended_at Sent (account_of config event (moments config turns))) (events_in config)
         ≡ message_count config turns }
     ensures limited { (config : Parts) (turns : List Turn) → AreConfigured config (moments config turns) →
-        sum_by (λ event. let account = account_of config event (moments config turns) in account.rate + account.traffic)
+        sum_by (λ event. let account = account_of config event (moments config turns) in ended_at AtRate account + ended_at AtTraffic account)
         (limited_events_in config) ≡ held_count config turns }
     ensures handed { (config : Parts) (turns : List Turn) → sum (handed config turns) ≡ held_count config turns }
 {}

@@ -12,7 +12,7 @@ mod fate;
 mod laws;
 
 pub use account::Account;
-pub use fate::Fate;
+pub use fate::{FATES, Fate};
 pub use laws::{
     a_quiet_turn_changes_nothing, how_stages_compose, the_fates_add_up,
     the_numbers_are_the_sizes_of_the_stages, what_a_turn_more_keeps,
