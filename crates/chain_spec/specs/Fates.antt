@@ -1,7 +1,7 @@
 -- Where the way of an item ends: the steps in their order. A step has the name of the fate that it gives.
 -- The members are those of the AUTOSAR SWS Intrusion Detection System Manager's filter chain; that each item has one
 -- that decided it is this project's own.
-use Rattle.std.specs.Prelude.{ℕ, Bool, true, false, List, [], ◌∷◌, codes}
+use Rattle.std.specs.Prelude.{ℕ, nat_le, Bool, true, false, List, [], ◌∷◌, codes, filter, if◌then◌else◌}
 pub use Rattle.chain_spec.specs.declared.fate.Fate.{Fate}
 pub use Rattle.chain_spec.specs.declared.fate.Fate.TheVariants.{AtMode, AtBlock, AtNth, InWindow, AtThreshold, AtSend, AtRate, AtTraffic, Sent}
 
@@ -20,6 +20,15 @@ place_of Sent = 8
 -- the steps in their order
 abbrev pub all_steps : List Fate
 all_steps = AtMode ∷ AtBlock ∷ AtNth ∷ InWindow ∷ AtThreshold ∷ AtSend ∷ AtRate ∷ AtTraffic ∷ Sent ∷ []
+
+-- the steps from this one on
+abbrev pub steps_from : Fate → List Fate
+steps_from first = filter (λ step. nat_le (place_of first) (place_of step)) all_steps
+
+-- the first of some steps that passes a test
+abbrev pub first_that : (Fate → Bool) → List Fate → Fate
+first_that test [] = Sent
+first_that test (step ∷ steps) = if test step then step else first_that test steps
 
 -- the word for a fate in texts: the member of the configuration that ended the item's way, or what else did
 abbrev pub fate_name : Fate → List ℕ

@@ -13,15 +13,19 @@ pub mod Growth
 pub mod Heads
 pub mod Items
 pub mod Limits
+pub mod Lists
 pub mod Memory
 pub mod Messages
 pub mod Moments
+pub mod OpenWindows
 pub mod Openers
 pub mod Places
 pub mod Quiet
 pub mod Stages
+pub mod Steps
 pub mod Storing
 pub mod Threshold
+pub mod Way
 pub mod Windows
 pub use Rattle.chain_spec.specs.Accounts.{number_at, since_given, account_by, ended_at, account_of, comers, AreConfigured, events_in, limited_events_in, TellsWindows}
 pub use Rattle.chain_spec.specs.Aggregation.{first_kept, last_kept, kept_of, joined}
@@ -31,7 +35,7 @@ pub use Rattle.chain_spec.specs.Chain.{candidates, is_out, sent_at, held_at, sen
 pub use Rattle.chain_spec.specs.Closing.{windows_in, is_due, is_open, newest_where, open_window, due_item, closing_item}
 pub use Rattle.chain_spec.specs.Counting.{Occurrence, among, counted}
 pub use Rattle.chain_spec.specs.Endings.{qualified_fate, aggregated_fate, coming_fate, Ending, coming, given, ending_at, endings, is_stored, items_with, items_stored}
-pub use Rattle.chain_spec.specs.Fates.{Fate, AtMode, AtBlock, AtNth, InWindow, AtThreshold, AtSend, AtRate, AtTraffic, Sent, place_of, all_steps, fate_name, is_qualified, is_limited, is_message}
+pub use Rattle.chain_spec.specs.Fates.{Fate, AtMode, AtBlock, AtNth, InWindow, AtThreshold, AtSend, AtRate, AtTraffic, Sent, place_of, all_steps, steps_from, first_that, fate_name, is_qualified, is_limited, is_message}
 pub use Rattle.chain_spec.specs.Filtering.{arrival, gated_at, alone, aggregated_at, thresholded_at, gated, aggregated, thresholded, filtered_at, qualified_at, qualified}
 pub use Rattle.chain_spec.specs.Gate.{is_filtered, is_bypassing, is_detailed, mode_at, state_at, is_blocked, item_in, is_arriving, arrival_at, arrivals, is_nth, sampled_at, sampled, bypassing_at}
 pub use Rattle.chain_spec.specs.Growth.{EndsWith, BeginsWith, Grows, GrowsAtEnd}
