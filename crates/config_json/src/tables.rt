@@ -4,6 +4,7 @@ ghost use Rattle.std.specs.Prelude.{◌≡◌, map};
 ghost use Rattle.config_json.specs.{row_of, form_numbered, top_table, event_table};
 
 use crate::kind::Kind;
+use ids_types::INTERNALS;
 
 /// The forms of the file.
 #[derive(Clone, Copy, Debug)]
@@ -123,7 +124,7 @@ pub(crate) const AGGREGATE: [MemberRow; 2] = [must!("interval", Whole), must!("c
 
 pub(crate) const THRESHOLD: [MemberRow; 2] = [must!("interval", Whole), must!("count", Whole)];
 
-pub(crate) const INTERNAL: [MemberRow; 3] = [
+pub(crate) const INTERNAL: [MemberRow; INTERNALS] = [
     may!("lost_events", WholeOrNull),
     may!("lost_contexts", WholeOrNull),
     may!("limited", WholeOrNull),

@@ -1,6 +1,7 @@
 -- A configuration as plain data.
 -- Source: the configuration format of this project (docs/CONFIGURATION.md).
-use Rattle.std.specs.Prelude.{ℕ, List, [], Bool, true, false, Option, Some, None, option_map, not, nat_lt, ◌&&◌, ◌==◌, length, slice_index_or}
+use Rattle.std.specs.Prelude.{ℕ, List, [], Bool, true, false, Option, Some, None, option_map, ◌==◌, length, slice_index_or}
+use Rattle.ids_types.specs.Internals.{is_reported}
 use Rattle.ids_types.specs.declared.class_spec.ClassSpec.{ClassSpec}
 use Rattle.ids_types.specs.declared.internal.Internal.{Internal}
 use Rattle.ids_types.specs.declared.mode.Mode.{Mode}
@@ -66,14 +67,6 @@ abbrev pub is_given : Option ℕ → ℕ → Bool
 is_given None k = false
 is_given (Some index) k = index == k
 
--- event k is reported by a sensor, and not by the manager itself
-abbrev pub is_sensor : Parts → ℕ → Bool
-is_sensor config k =
-    nat_lt k (length config.events)
-    && not (is_given config.lost_events k)
-    && not (is_given config.lost_contexts k)
-    && not (is_given config.limited k)
-
 -- the index as a name of an event
 abbrev pub index_of : ℕ → EventIndex
 index_of k = record { 0 = k }
@@ -85,3 +78,7 @@ internal_of config = record {
   lost_contexts = option_map index_of config.lost_contexts;
   limited = option_map index_of config.limited;
 }
+
+-- event k is reported by a sensor, and not by the manager itself
+abbrev pub is_sensor : Parts → ℕ → Bool
+is_sensor config k = is_reported (internal_of config) (length config.events) k

@@ -1,6 +1,6 @@
 //! The configuration as a value that is valid, and what it tells.
 
-ghost use Rattle.std.specs.Prelude.{◌≡◌, ◌<◌, Ok, IfSome, option_map};
+ghost use Rattle.std.specs.Prelude.{◌≡◌, ◌≤◌, length, ◌<◌, Ok, IfSome, option_map};
 ghost use Rattle.ids_config.specs.{is_sensor, internal_of, index_of as index_name, IsValid, parts_value, checked};
 
 use crate::events::check_events;
@@ -50,16 +50,13 @@ impl Config {
         &self.parts
     }
 
-    /// Whether the event is one that sensors report: it is there, and is none of the internal ones.
-    pub fn is_sensor(&self, event: EventIndex) -> bool
-        ensures { result ≡ is_sensor self.now event.0 }
+    /// Whether the event of this index is one that sensors report: it is there, and is none of the internal ones.
+    pub fn is_sensor(&self, event: u64) -> bool
+        ensures is { result ≡ is_sensor self.now event }
+        ensures few { length self.now.events ≤ 256 }
     {
-        let index = event.0 as u64;
-        let parts = &self.parts;
-        index < parts.events.len() as u64
-            && parts.lost_events != Some(index)
-            && parts.lost_contexts != Some(index)
-            && parts.limited != Some(index)
+        let events = self.parts().events.len() as u64;
+        self.internal().is_reported(events, event)
     }
 
     /// The events that the manager itself reports.

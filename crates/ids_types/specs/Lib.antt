@@ -1,5 +1,6 @@
 pub mod Carries
 pub mod Fates
+pub mod Internals
 pub mod MemoryRow
 pub mod ModeNames
 pub mod Names
@@ -10,6 +11,7 @@ pub mod Turns
 pub mod Views
 pub use Rattle.ids_types.specs.Carries.{carried_by, act_by, entry_by}
 pub use Rattle.ids_types.specs.Fates.{lost, Fate, accepted, start_of, end_of, FatesFrom, end_from, claims_got, AreAllDecided}
+pub use Rattle.ids_types.specs.Internals.{is_that, is_reported}
 pub use Rattle.ids_types.specs.Names.{Carried, Absent, Kept, Missing, Act, Report, State, SetMode, Entry, TurnHead, Stamp, EntryRow, RowKind, Bare, Holding, Lacking, StateTo, ModeTo, TurnRow}
 pub use Rattle.ids_types.specs.Output.{room_of, empty_output, without_messages, has_put, has_ended, has_sent}
 pub use Rattle.ids_types.specs.Plain.{plain_carried, plain_entry, carried_bytes, act_bytes, kept_bytes}

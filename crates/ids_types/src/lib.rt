@@ -26,7 +26,7 @@ pub use class_spec::ClassSpec;
 pub use entry::{Act, Carried, Entry, TurnHead};
 pub use event::Qualified;
 pub use history::History;
-pub use internal::Internal;
+pub use internal::{INTERNALS, Internal};
 pub use key::Key;
 pub use loss::Loss;
 pub use memory::NoMemory;

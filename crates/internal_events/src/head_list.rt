@@ -5,7 +5,7 @@ ghost use Rattle.std.specs.List.{slice_get};
 ghost use Rattle.chain_spec.specs.Heads.{head_for, heads_of};
 ghost use Rattle.internal_events.specs.HeadView.{head_told};
 
-use ids_types::{EventIndex, Internal, TurnHead};
+use ids_types::{EventIndex, INTERNALS, Internal, TurnHead};
 use std::marker::Model;
 
 /// An internal event, with the count that it tells.
@@ -18,7 +18,7 @@ pub struct Head {
 /// The internal events of a turn in their order, at most three.
 #[derive(Debug, Drop)]
 pub struct HeadList {
-    heads: [Option<Head>; 3],
+    heads: [Option<Head>; INTERNALS],
 }
 
 impl Model for HeadList {
@@ -34,7 +34,7 @@ impl Model for HeadList {
 
 impl HeadList {
     /// How many there are.
-    /// Steps: 3 places. By: type `[Option<Head>; 3]`.
+    /// Steps: 3 places. By: type `[Option<Head>; INTERNALS]`.
     pub fn len(&self) -> usize
         ensures { result ≡ length self.now }
     {
@@ -42,7 +42,7 @@ impl HeadList {
     }
 
     /// The one at this place, from 0.
-    /// Steps: 3 places. By: type `[Option<Head>; 3]`.
+    /// Steps: 3 places. By: type `[Option<Head>; INTERNALS]`.
     pub fn get(&self, i: usize) -> Option<Head>
         ensures { result ≡ slice_get self.now i }
     {

@@ -9,7 +9,6 @@ ghost use Rattle.journal.specs.RawLines.{context_told, change_told, report_act};
 use crate::line::{RawChange, RawContext, RawReport};
 use ids_config::Config;
 use ids_types::{Numbers, TurnHead};
-use text_spec::is_sensor;
 
 /// The greatest tick.
 const MAX_TICK: u64 = 1 << 62;
@@ -118,7 +117,7 @@ pub(crate) fn has_sensor(config: &Config, event: u64) -> bool
     ensures known { result ≡ sensor_is config.now event }
     ensures few { length config.now.events ≤ 256 }
 {
-    is_sensor(config, events_of(config), event)
+    config.is_sensor(event)
 }
 
 /// Whether the event of a mode is there.

@@ -2,6 +2,7 @@
 use Rattle.std.specs.Prelude.{◌≡◌, ℕ, ◌≤◌, ◌<◌, ◌^◌, Bool, true, false, not, nat_lt, ◌&&◌, ◌==◌, Option, Some, None, List, length, take, All, ⊤}
 use mathlib.Core.Option.{some}
 use lib.ListN.{get_elem?}
+use Rattle.ids_types.specs.Internals.{is_reported}
 use Rattle.report_api.specs.Names.{Carried, Absent, Kept, Missing, Act, Report, State, SetMode, EventIndex}
 use Rattle.buffer_classes.specs.Buffers.{Buffer}
 use Rattle.report_queue.specs.declared.cargo.Item.{Item}
@@ -15,18 +16,9 @@ term_sizes terms = take terms.classes terms.sizes
 abbrev pub has_event : ReportTerms → ℕ → Bool
 has_event terms k = nat_lt k terms.events
 
--- the internal event is this one
-abbrev pub is_that : Option EventIndex → ℕ → Bool
-is_that None k = false
-is_that (Some event) k = event.0 == k
-
 -- the event is configured, and none of the internal ones
 abbrev pub is_sensor : ReportTerms → ℕ → Bool
-is_sensor terms k =
-    has_event terms k
-    && not (is_that terms.internal.lost_events k)
-    && not (is_that terms.internal.lost_contexts k)
-    && not (is_that terms.internal.limited k)
+is_sensor terms k = is_reported terms.internal terms.events k
 
 -- a kept context is that of a buffer of one of the classes, under its own class and claim, and fits there
 pub record IsKept (terms : ReportTerms) (class claim : ℕ) (buf : Buffer) : Type 0 where

@@ -19,11 +19,8 @@ impl ReportTerms {
     pub fn is_sensor(&self, event: EventIndex) -> bool
         ensures { result ≡ is_sensor self.now event.0 }
     {
-        let internal = &self.internal;
-        event.0 < self.events
-            && internal.lost_events != Some(event)
-            && internal.lost_contexts != Some(event)
-            && internal.limited != Some(event)
+        self.internal
+            .is_reported(u64::from(self.events), u64::from(event.0))
     }
 
     /// Whether the event is configured.

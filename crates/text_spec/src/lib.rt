@@ -9,7 +9,6 @@
 #![tactic(auto)]
 
 mod decoded;
-mod events;
 mod fault;
 mod hex_text;
 mod hexadecimal;
@@ -22,7 +21,6 @@ mod stamps;
 mod trace;
 
 pub use decoded::push_message;
-pub use events::is_sensor;
 pub use fault::{LineFault, TextFault};
 pub use hex_text::HexText;
 pub use hexadecimal::{one_text_for_bytes, push_bytes, push_hex};

@@ -7,7 +7,6 @@ ghost use Rattle.trace_text.specs.Reading.{act_told};
 
 use crate::form::RawAct;
 use ids_config::Config;
-use text_spec::is_sensor;
 
 /// The greatest tick.
 const MAX_TICK: u64 = 1 << 62;
@@ -61,7 +60,7 @@ pub(crate) fn has_event(config: &Config, act: &RawAct<'_>) -> bool
 {
     let events = config.parts().events.len() as u64;
     match act {
-        RawAct::Report(event, ..) => is_sensor(config, events, *event),
+        RawAct::Report(event, ..) => config.is_sensor(*event),
         RawAct::State(_) => true,
         RawAct::SetMode(event, _) => *event < events,
     }
