@@ -7,7 +7,7 @@ use Rattle.ids_types.specs.declared.entry.Act.TheVariants.{Report}
 use Rattle.ids_types.specs.declared.entry.Carried.TheVariants.{Missing}
 use Rattle.ids_types.specs.declared.entry.Entry.{Entry}
 use Rattle.ids_config.specs.Parts.{Parts, event_at, internal_of}
-use Rattle.chain_spec.specs.{account_of, all_steps, ended_at, events_in, fate_name, Ending, ending_at, is_stored, heads_of, Moment, act_moment, closings, head_moment, moments, with_all}
+use Rattle.chain_spec.specs.{account_of, all_steps, ended_at, events_in, fate_name, Ending, by_window, ending_at, is_stored, heads_of, Moment, act_moment, closings, head_moment, moments, with_all}
 use Rattle.chain_spec.specs.declared.account.Account.{Account}
 use Rattle.text_spec.specs.{Told, begins, enters, loses, line_for, absent, space, text_of}
 
@@ -35,7 +35,7 @@ ended_fields config (Some ending) = fate_fields config ending
 
 -- `W` for what a window gave, and `I` for an internal event
 abbrev pub letter_of : Ending → List ℕ
-letter_of ending = if ending.by_window then codes "W" else codes "I"
+letter_of ending = if by_window ending then codes "W" else codes "I"
 
 -- `W EVENT COUNT FATE STORED` and `I EVENT COUNT FATE STORED`
 abbrev pub given_line : Parts → Ending → List ℕ

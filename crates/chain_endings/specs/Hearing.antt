@@ -1,13 +1,13 @@
 -- Endings in the order of time, as a listener hears them, and accounts as the code keeps them.
-use Rattle.std.specs.Prelude.{◌≡◌, ℕ, ◌++◌, Bool, true, false, List, ◌∷◌, map, None, option_to_list, replicate, reverse, ◌≤◌, ◌<◌, ◌+◌, ◌==◌, length, filter, slice_index_or, slice_set, if◌then◌else◌}
+use Rattle.std.specs.Prelude.{◌≡◌, ℕ, ◌++◌, Bool, true, false, List, ◌∷◌, map, None, option_to_list, reverse, ◌≤◌, ◌<◌, ◌+◌, length, filter, slice_index_or, slice_set, if◌then◌else◌}
 use Rattle.std.proofs.Common.{ap, sym, ◌∙◌}
 use Rattle.ids_types.specs.{Turn}
 use Rattle.ids_types.specs.declared.entry.Act.{Act}
 use Rattle.ids_types.specs.declared.entry.Act.TheVariants.{Report}
 use Rattle.ids_types.specs.declared.entry.Entry.{Entry}
 use Rattle.ids_config.specs.Parts.{Parts}
-use Rattle.chain_spec.specs.{Ending, ending_at, endings, Moment, act_moment, turn_moments, account_by, ended_at, place_of, is_of}
-use Rattle.event_chain.specs.Fates.{bare, ending_of}
+use Rattle.chain_spec.specs.{Ending, by_window, ends_at, ending_at, endings, Moment, act_moment, turn_moments, account_by, all_steps, ended_at, place_of, is_of}
+use Rattle.event_chain.specs.Told.{bare, ending_of}
 use Rattle.chain_endings.specs.ExplainedText.{endings_along, is_missing}
 use Rattle.chain_endings.specs.declared.explaining.Listener.{Listener}
 use Rattle.chain_spec.specs.declared.account.Account.{Account}
@@ -17,9 +17,9 @@ use Rattle.chain_spec.specs.declared.fate.Fate.TheVariants.{InWindow}
 abbrev pub turn_endings : Parts → List Moment → Turn → List Ending
 turn_endings config before turn = endings_along config before (turn_moments config turn)
 
--- the moments of a turn's entries
-abbrev pub entry_moments : Turn → List Moment
-entry_moments turn = map (λ entry. act_moment turn.head.tick entry.act) turn.entries
+-- the moments of entries at a tick
+abbrev pub entry_moments : ℕ → List (Entry (List ℕ)) → List Moment
+entry_moments tick entries = map (λ entry. act_moment tick entry.act) entries
 
 -- the act is a report, by which an item comes
 abbrev pub is_report : Act (List ℕ) → Bool
@@ -44,15 +44,15 @@ silent listener config before moment hears none kept =
 
 -- the account of no items
 abbrev pub nothing : Account
-nothing = record { came = 0; closed = 0; ended = replicate 9 0; waiting = 0; stored = 0 }
+nothing = record { came = 0; closed = 0; ended = map (λ step. 0) all_steps; waiting = 0; stored = 0 }
 
 -- with an ending more, whose item is stored or not
 abbrev pub with_ending : Bool → Ending → Account → Account
 with_ending stored one account = record {
-  came = if one.by_window then account.came else account.came + 1;
-  closed = if one.by_window then account.closed + 1 else account.closed;
+  came = if by_window one then account.came else account.came + 1;
+  closed = if by_window one then account.closed + 1 else account.closed;
   ended = slice_set account.ended (place_of one.fate) (ended_at one.fate account + 1);
-  waiting = if one.by_window then 0 else if place_of one.fate == place_of InWindow then account.waiting + 1 else account.waiting;
+  waiting = if by_window one then 0 else if ends_at InWindow one then account.waiting + 1 else account.waiting;
   stored = if stored then account.stored + 1 else account.stored;
 }
 

@@ -3,17 +3,17 @@
 ghost use Rattle.std.specs.Prelude.{◌≡◌, ◌<◌, ◌^◌, ℕ, map, reverse, length, IfOk, not, ◌==◌, ◌&&◌, if◌then◌else◌, ◌+◌, ◌++◌, ◌∷◌, [], List, slice_index_or, OnOk, decimal, codes};
 ghost use Rattle.ids_config.specs.Parts.{event_at};
 ghost use Rattle.chain_spec.specs.{is_stored, events_in, moments};
-ghost use Rattle.event_chain.specs.Fates.{ending_of};
+ghost use Rattle.event_chain.specs.Told.{ending_of};
 ghost use Rattle.chain_endings.specs.{AreOf, IsAtMost, kept_at, nothing, with_ending, CountsMissing, account_fields, account_line, field, is_missing, told_in};
 ghost use Rattle.ids_types.specs.declared.entry.Entry.{Entry};
 ghost use Rattle.ids_types.specs.{entries_of, plain_entry};
 ghost use Rattle.text_spec.specs.Words.{line_feed, text_of};
 
 use crate::lines::push_numbers;
-use chain_spec::{Account, Fate};
+use chain_spec::{Account, Fate, STEPS};
 use event_chain::Ending;
 use ids_config::{ConfigParts, EventParts};
-use ids_types::{Act, Carried, Entry, EntryWalk, EventIndex, History, NoMemory, Plain};
+use ids_types::{Act, Carried, Entry, EventIndex, History, NoMemory, Plain};
 use std::alloc::Global;
 use text_spec::push_field;
 
@@ -24,7 +24,7 @@ fn nothing() -> Account
     Account {
         came: 0,
         closed: 0,
-        ended: [0; 9],
+        ended: [0; STEPS],
         waiting: 0,
         stored: 0,
     }
@@ -36,7 +36,7 @@ fn add(account: &mut Account, ending: &Ending, stored: bool)
     ensures { account.new ≡ with_ending stored (ending_of ending.now) account.old }
 {
     account.ended[ending.fate.place()] += 1;
-    if ending.by_window {
+    if ending.by_window() {
         account.closed += 1;
         account.waiting = 0;
     } else {
@@ -50,7 +50,7 @@ fn add(account: &mut Account, ending: &Ending, stored: bool)
 pub(crate) fn is_stored(parts: &ConfigParts, ending: &Ending) -> bool
     ensures { result ≡ is_stored parts.now (ending_of ending.now) }
 {
-    ending.fate.is_qualified() && stores(parts, ending.event)
+    ending.reached(Fate::AtSend) && stores(parts, ending.event)
 }
 
 /// Whether the event memory has room, and stores the event.
@@ -87,9 +87,8 @@ fn add_to(accounts: &mut Vec<Account>, ending: &Ending, stored: bool)
         ≡ (if ending.now.event.0 == k then with_ending stored (ending_of ending.now) (kept_at accounts.old.items k)
         else kept_at accounts.old.items k) }
 {
-    let event = usize::from(ending.event.0);
-    if event < accounts.len() {
-        add(&mut accounts[event], ending, stored);
+    if let Some(account) = accounts.get_mut(usize::from(ending.event.0)) {
+        add(account, ending, stored);
     }
 }
 
@@ -108,13 +107,7 @@ pub(crate) fn push_accounts(
     let accounts = accounts_of(alloc, parts, told)?;
     let missing = missing_in(alloc, parts.events.len(), history)?;
     for event in 0..parts.events.len() {
-        push_account(
-            out,
-            event,
-            &parts.events[event],
-            &accounts[event],
-            missing[event],
-        )?;
+        push_account(out, parts, event, &accounts, &missing)?;
     }
     Ok(())
 }
@@ -123,17 +116,20 @@ pub(crate) fn push_accounts(
 #[tactic(auto, using(std::proofs::Common::append_assoc))]
 fn push_account(
     out: &mut Vec<u8>,
+    parts: &ConfigParts,
     event: usize,
-    own: &EventParts,
-    account: &Account,
-    missing: u64,
+    accounts: &[Account],
+    missing: &[u64],
 ) -> Result<(), NoMemory>
-    ensures { OnOk result (out.new.items ≡ out.old.items
-        ++ (((codes "A" ++ field (decimal event) ++ field (decimal own.now.id) ++ field (decimal own.now.sensor))
-        ++ account_fields account.now missing) ++ line_feed ∷ [])) }
+    requires exists { event < length parts.now.events }
+    requires accounts { event < length accounts.now }
+    requires missing { event < length missing.now }
+    ensures { OnOk result (let own = event_at parts.now event in out.new.items ≡ out.old.items
+        ++ (((codes "A" ++ field (decimal event) ++ field (decimal own.id) ++ field (decimal own.sensor))
+        ++ account_fields (kept_at accounts.now event) (slice_index_or missing.now event 0)) ++ line_feed ∷ [])) }
 {
-    push_names(out, event, own)?;
-    push_numbers(out, account, missing)?;
+    push_names(out, event, &parts.events[event])?;
+    push_numbers(out, &accounts[event], missing[event])?;
     out.push(b'\n')?;
     Ok(())
 }
@@ -158,22 +154,12 @@ fn missing_in(alloc: Global, events: usize, history: &History) -> Result<Vec<u64
     let mut missing = vec![in alloc; 0; events]?;
     let mut turns = history.walk();
     while let Some((_, entries)) = turns.pop_front() {
-        count_all(entries, &mut missing);
+        let mut rest = entries;
+        while let Some(entry) = rest.pop_front() {
+            count_missing(&entry, &mut missing);
+        }
     }
     Ok(missing)
-}
-
-/// Counts those of the entries that are reports whose context data are missing.
-fn count_all(entries: EntryWalk<'_>, missing: &mut Vec<u64>)
-    requires { (done : List (Entry (List ℕ))) × (length done + length entries < 2 ^ 64) × CountsMissing done missing.old.items }
-    ensures len { length missing.new.items ≡ length missing.old.items }
-    ensures counts { (done : List (Entry (List ℕ))) → CountsMissing done missing.old.items
-        → CountsMissing (done ++ entries.entry) missing.new.items }
-{
-    let mut rest = entries;
-    while let Some(entry) = rest.pop_front() {
-        count_missing(&entry, missing);
-    }
 }
 
 /// Counts the entry where it is a report whose context data are missing.

@@ -1,7 +1,7 @@
 //! The words and lines that are told beside those of a journal.
 
 ghost use Rattle.std.specs.Prelude.{◌≡◌, ◌++◌, ◌∷◌, [], OnOk, codes, decimal};
-ghost use Rattle.event_chain.specs.Fates.{ending_of};
+ghost use Rattle.event_chain.specs.Told.{ending_of};
 ghost use Rattle.text_spec.specs.Words.{line_feed};
 ghost use Rattle.chain_endings.specs.ExplainedText.{Pushes, account_fields, fate_fields, field, given_line, letter_of, named, step_fields, stored_word};
 
@@ -30,7 +30,7 @@ pub(crate) fn push_given(
 fn letter_of(ending: &Ending) -> u8
     ensures { result ∷ [] ≡ letter_of (ending_of ending.now) }
 {
-    if ending.by_window { b'W' } else { b'I' }
+    if ending.by_window() { b'W' } else { b'I' }
 }
 
 /// Appends ` FATE STORED`.
@@ -60,6 +60,7 @@ fn stored_word(stored: bool) -> &'static [u8]
 }
 
 /// Appends the numbers of an account, and how many context data are missing.
+#[tactic(auto, using(std::proofs::Common::append_assoc))]
 pub(crate) fn push_numbers(
     out: &mut Vec<u8>,
     account: &Account,

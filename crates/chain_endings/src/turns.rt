@@ -3,7 +3,7 @@
 ghost use Rattle.std.specs.Prelude.{◌≡◌, ◌<◌, ◌++◌, ◌∷◌, [], List, Option, filter, is_some, length, map, option_to_list, IfOk, OnOk};
 ghost use Rattle.ids_types.specs.{plain_entry, turn_at};
 ghost use Rattle.chain_spec.specs.{Ending as Told, Moment};
-ghost use Rattle.event_chain.specs.Fates.{bare, ending_of};
+ghost use Rattle.event_chain.specs.Told.{bare, ending_of};
 ghost use Rattle.text_spec.specs.{enters, line_for, line_feed, text_of};
 ghost use Rattle.chain_endings.specs.{ended_fields, entry_lines, given_line, turn_lines, endings_along, entry_moments, is_report, turn_endings};
 
@@ -35,6 +35,7 @@ pub(crate) fn push_turn(
 }
 
 /// How many entries of a turn are reports.
+#[tactic(auto, using(std::proofs::lemmas::Grind::common_steps, crate::proofs::Lemmas::filter_few))]
 fn reports_in(history: &History, turn: u64) -> usize
     requires { turn < length history.now.turns }
     ensures { result ≡ length (filter (λ entry. is_report entry.act) (turn_at history.now.turns turn).entries) }
@@ -75,7 +76,7 @@ fn push_entries(
 ) -> Result<(), NoMemory>
     requires { turn < length history.now.turns }
     ensures { OnOk result ((before : List Moment) → let turn = turn_at history.now.turns turn in
-        map ending_of entered.now ≡ map bare (endings_along parts.now before (entry_moments turn)) →
+        map ending_of entered.now ≡ map bare (endings_along parts.now before (entry_moments turn.head.tick turn.entries)) →
         out.new.items ≡ out.old.items ++ text_of (entry_lines parts.now turn.head.tick before turn.entries)) }
 {
     let mut rest = entered;

@@ -1,135 +1,131 @@
--- A quiet turn left out: the moments with it and those without it tell the same.
-use Rattle.chain_spec.proofs.Names.{◌≡◌, ℕ, ◌+◌, ◌<◌, ◌≤◌, List, [], ◌∷◌, ◌++◌, map, nat_le, Bool, Option, Some, None, IfSome, option_and_then, list_any, refl, sym, ◌∙◌, ◌↔◌, arith, range_with_len, length, inl, inr, append-nil, Turn, Entry, Act, Report, Parts, event_at, internal_of, Aggregate, tick_of, arrived, closing_ticks, windows_in, newest_where, due_item, closing_item, endings, gated, gated_at, aggregated, qualified, mode_at, arrivals, arrival_at, Moment, closes, comes, closes_due, closings, turn_moments, moments, head_moment, act_moment, heads_of, with_all, with_item, EndBy, IsCausal, handed_on, cases_eq, nat_tests, Head, state_at, ending_at, call_tick, arrives}
+-- A quiet turn left out: the moments with it and those without it have the same endings, and tell the same.
+use Rattle.std.specs.Prelude.{⊤}
+use Rattle.std.proofs.Math.Path.{fun_ext}
+use Rattle.std.proofs.lemmas.Bool.{eqb-true}
+use Rattle.chain_spec.proofs.Names.{◌≡◌, ℕ, ◌+◌, ◌<◌, ◌≤◌, ◌==◌, nat_le, Bool, List, [], ◌∷◌, ◌++◌, length, map, filter, Some, None, option_map, option_to_list, list_any, refl, sym, ap, ◌∙◌, ◌↔◌, arith, inl, inr, cases_Bool, nat_tests, append-nil, range_with_len, Turn, Entry, Act, Report, Head, heads_of, Parts, event_at, internal_of, Aggregate, tick_of, Item, is_of, Moment, closes, comes, closings, turn_moments, moments, head_moment, act_moment, with_all, mode_at, state_at, item_in, Window, EndBy, windows_of, with_item, newest_where, closing_ticks, Fate, AtMode, AtBlock, InWindow, AtThreshold, steps_from, first_that, holds, Ending, ended, endings, ending_after, given, first_under, reaches, items_where, seen_at, handed_on, held_count, IsCausal}
 use Rattle.chain_spec.specs.Quiet.{HaveIntervals, IsQuiet, TellTheSame}
-use Rattle.chain_spec.proofs.AggregationLemmas.{ACall, AnArrival, AWindow, came_at, stays}
-use Rattle.chain_spec.proofs.CourseLemmas.{joined_by, passed_by, joined_more, passed_more}
+use Rattle.chain_spec.proofs.ClosedLemmas.{tick_at, stays, closed_at}
 use Rattle.chain_spec.proofs.StageLemmas.{all_keep, cases_Option, with_all-append}
-
--- one of the ticks is at least this one
-abbrev any_from : ℕ → List ℕ → Bool
-any_from end ticks = list_any (λ n. nat_le end n) ticks
 
 -- ---- the open window of an event, by the ticks at which turns closed what was due
 
 module _ (setting : Aggregate) (quiet : ℕ) where
-  -- the window that is open
-  abbrev open_at : List ℕ → List AWindow → Option AWindow
-  open_at ticks ws = newest_where (stays setting ticks) ws
-
   -- by these ticks and by others the same window is open, and so is one that ends after the quiet tick
-  record AreOpen (ticks others : List ℕ) (ws : List AWindow) : Type 0 where
-    now : open_at ticks ws ≡ open_at others ws
-    later : (end : ℕ) → quiet < end → any_from end ticks ≡ any_from end others
+  record AreOpen (ticks others : List ℕ) (ws : List (Window Item)) : Type 0 where
+    now : newest_where (stays setting ticks) ws ≡ newest_where (stays setting others) ws
+    later : (end : ℕ) → quiet < end → list_any (λ n. nat_le end n) ticks ≡ list_any (λ n. nat_le end n) others
 
-  close_both : (tick : ℕ) (a b : List ℕ) (ws : List AWindow) → open_at a ws ≡ open_at b ws → open_at (tick ∷ a) ws ≡ open_at (tick ∷ b) ws
-  close_both tick a b ws same = grind (arith, same)
+  -- with a turn more that closes
+  close_both : (tick : ℕ) (a b : List ℕ) (ws : List (Window Item)) → quiet ≤ tick → AreOpen a b ws → AreOpen (tick ∷ a) (tick ∷ b) ws
+  close_both tick a b ws from h = grind (arith, h)
 
-  close_none : (tick : ℕ) (a b : List ℕ) (ws : List AWindow) → option_and_then (due_item setting tick) (open_at b ws) ≡ None
-      → open_at a ws ≡ open_at b ws → open_at (tick ∷ a) ws ≡ open_at b ws
-  close_none tick a b ws none same = grind (arith, none, same)
+  -- with the quiet one, which closes nothing
+  close_none : (a b : List ℕ) (ws : List (Window Item)) → closed_at setting quiet b ws ≡ None → AreOpen a b ws → AreOpen (quiet ∷ a) b ws
+  close_none a b ws none h = grind (arith, nat_tests, none, h)
 
-  arrive_both : (x : AnArrival) (a b : List ℕ) (ws : List AWindow) → any_from (x.tick + setting.interval) a ≡ any_from (x.tick + setting.interval) b
-      → open_at a ws ≡ open_at b ws → open_at a (with_item came_at setting.interval x ws) ≡ open_at b (with_item came_at setting.interval x ws)
-  arrive_both x a b ws later same = grind (arith, later, same)
+  -- with an item more
+  join_both : (x : Item) (a b : List ℕ) (ws : List (Window Item)) → 1 ≤ setting.interval → quiet ≤ x.tick
+      → AreOpen a b ws → AreOpen a b (with_item tick_at setting.interval x ws)
+  join_both x a b ws some from h = grind (arith, h, h.later (x.tick + setting.interval))
 
-  -- with a call more
-  call_both : (event : ℕ) (call : ACall) (calls others : List ACall) → 1 ≤ setting.interval → quiet ≤ call_tick call
-      → AreOpen (closing_ticks event calls) (closing_ticks event others) (windows_in setting.interval event others)
-      → AreOpen (closing_ticks event (call ∷ calls)) (closing_ticks event (call ∷ others)) (windows_in setting.interval event (call ∷ others))
-  call_both event (closes_due at other) calls others some from h =
-      grind (arith, h, close_both at (closing_ticks event calls) (closing_ticks event others) (windows_in setting.interval event others) h.now)
-  call_both event (arrives at told) calls others some from h =
-      grind (
-        arith,
-        h,
-        arrive_both (record { tick = at; told = told }) (closing_ticks event calls) (closing_ticks event others)
-            (windows_in setting.interval event others) (h.later (at + setting.interval) (omega arith)) h.now,
-      )
+  -- with an ending more
+  ending_joins : (event : ℕ) (a b : List ℕ) (one : Ending) (past : List Ending) → 1 ≤ setting.interval → quiet ≤ one.item.tick
+      → AreOpen a b (windows_of tick_at setting.interval (filter (is_of event) (items_where (reaches InWindow) past)))
+      → AreOpen a b (windows_of tick_at setting.interval (filter (is_of event) (items_where (reaches InWindow) (one ∷ past))))
+  ending_joins event a b one past some from h =
+      grind (arith, h, join_both one.item a b (windows_of tick_at setting.interval (filter (is_of event) (items_where (reaches InWindow) past))) some from h)
 
 -- ---- moments
 
+-- a window that closes gives nothing to windows
+closing_joins : (config : Parts) (tick event : ℕ) (before : List Moment)
+    → items_where (reaches InWindow) (endings config (closes tick event ∷ before)) ≡ items_where (reaches InWindow) (endings config before)
+closing_joins config tick event before = elim (cases_Option (given config before (endings config before) tick event))
+    [ inl none ↦ rw none refl | inr is ↦ rw is.1 refl ]
+
+-- the moment is no earlier than a tick
+abbrev IsFrom : ℕ → Moment → Type 0
+IsFrom quiet (closes tick event) = quiet ≤ tick
+IsFrom quiet (comes item) = quiet ≤ item.tick
+IsFrom quiet _ = ⊤
+
 module _ (config : Parts) (quiet : ℕ) where
-  -- of an event, where it is aggregated, the same window is open after these moments
+  -- of an event, if it is aggregated, the same window is open after these moments
   abbrev AreOpenOf : ℕ → List Moment → List Moment → Type 0
   AreOpenOf event ms others = (setting : Aggregate) → (event_at config event).aggregate ≡ Some setting → AreOpen setting quiet
-      (closing_ticks event (gated config ms)) (closing_ticks event (gated config others)) (windows_in setting.interval event (gated config others))
+      (closing_ticks event ms) (closing_ticks event others)
+      (windows_of tick_at setting.interval (filter (is_of event) (items_where (reaches InWindow) (endings config others))))
 
   -- these moments, with what turns closed at the quiet tick, are like others without
   record AreAlike (ms others : List Moment) : Type 0 where
     mode : (event : ℕ) → mode_at config event ms ≡ mode_at config event others
     state : state_at config ms ≡ state_at config others
-    arrivals : (event : ℕ) → arrivals config event ms ≡ arrivals config event others
     opens : (event : ℕ) → AreOpenOf event ms others
-    arrived : (event : ℕ) → arrived event (gated config ms) ≡ arrived event (gated config others)
-    aggregated : aggregated config ms ≡ aggregated config others
-    qualified : qualified config ms ≡ qualified config others
     endings : endings config ms ≡ endings config others
 
   module _ (ms others : List Moment) (h : AreAlike ms others) where
-    same_item : (event at : ℕ) → closing_item (event_at config event).aggregate event at (gated config ms)
-        ≡ closing_item (event_at config event).aggregate event at (gated config others)
-    same_item event at = grind (arith, h.arrived event, h.opens event)
+    -- what ended
+    abbrev past : List Ending
+    past = endings config others
 
-    same_arrival : (event : ℕ) (m : Moment) → arrival_at config event ms m ≡ arrival_at config event others m
-    same_arrival event (comes item) = rw (h.mode event, h.state) refl
-    same_arrival event _ = refl
+    same_holds : (item : Item) (step : Fate) → holds config step (seen_at ms past step) item ≡ holds config step (seen_at others past step) item
+    same_holds item AtMode = rw (h.mode item.event) refl
+    same_holds item AtBlock = rw h.state refl
+    same_holds item _ = refl
 
-    same_gated : (m : Moment) → gated_at config ms m ≡ gated_at config others m
-    same_gated (comes item) = rw (h.arrivals item.event, same_arrival item.event (comes item)) refl
-    same_gated _ = refl
+    same_ended : (first : Fate) (item : Item) → ended config ms past first item ≡ ended config others past first item
+    same_ended first item =
+        ap (λ (test : Fate → Bool). let one : Ending = record { item = item; first = first; fate = first_that test (steps_from first) } in one)
+        (fun_ext (same_holds item))
 
-    same_joined : (m : Moment) → joined_by config ms m ≡ joined_by config others m
-    same_joined m = grind (arith, same_item, same_gated m)
+    same_given : (tick event : ℕ) → given config ms past tick event ≡ given config others past tick event
+    same_given tick event = elim (cases_Option (event_at config event).aggregate)
+        [ inl none ↦ rw none refl | inr is ↦ rw (is.1, (h.opens event is.0 is.1).now) refl ]
 
-    same_passed : (m : Moment) → passed_by config ms m ≡ passed_by config others m
-    same_passed m = grind (arith, h, same_joined m)
-
-    same_ending : (m : Moment) → ending_at config ms m ≡ ending_at config others m
-    same_ending (closes at event) = elim (cases_Option (closing_item (event_at config event).aggregate event at (gated config others)))
-        [ inl none ↦ rw (same_item event at, none) refl | inr is ↦ rw (same_item event at, is.1, h.aggregated, h.qualified) refl ]
-    same_ending (comes item) = rw (h.mode item.event, h.arrivals item.event, h.aggregated, h.qualified, h.state) refl
+    same_ending : (m : Moment) → ending_after config ms past m ≡ ending_after config others past m
+    same_ending (closes tick event) =
+        rw (same_given tick event) (ap (λ f. option_map f (given config others past tick event)) (fun_ext (same_ended AtThreshold)))
+    same_ending (comes item) = rw (h.mode item.event) (ap Some (same_ended _ _))
     same_ending _ = refl
 
+    more_endings : (m : Moment) → endings config (m ∷ ms) ≡ endings config (m ∷ others)
+    more_endings m = rw h.endings (ap (λ told. option_to_list told ++ past) (same_ending m))
+
+    more_opens : HaveIntervals config → (m : Moment) → IsFrom quiet m → (event : ℕ) → AreOpenOf event (m ∷ ms) (m ∷ others)
+    more_opens some (closes tick other) from event setting is =
+        rw (closing_joins config tick other others) (elim (cases_Bool (other == event)) [
+          | inl same ↦ rw same (close_both setting quiet tick _ _ _ from (h.opens event setting is))
+          | inr differ ↦ rw differ (h.opens event setting is)
+        ])
+    more_opens some (comes item) from event setting is =
+        let mode = mode_at config item.event others in
+        ending_joins setting quiet event _ _ (ended config others past (first_under mode) (item_in mode item)) past
+        (rw is at (some event)) from (h.opens event setting is)
+    more_opens some _ from event setting is = h.opens event setting is
+
     -- with a moment more they are alike
-    both : HaveIntervals config → (m : Moment) → IfSome (gated_at config others m) (λ call. quiet ≤ call_tick call) → AreAlike (m ∷ ms) (m ∷ others)
-    both some m from =
-        let gates = same_gated m in
-        let arrived : (event : ℕ) → arrived event (gated config (m ∷ ms)) ≡ arrived event (gated config (m ∷ others)) =
-        λ event. rw gates (grind (arith, h.arrived event)) in
-        let opens : (event : ℕ) → AreOpenOf event (m ∷ ms) (m ∷ others) = λ event setting is.
-        rw gates (elim (cases_Option (gated_at config others m)) [
-          | inl none ↦ rw none (h.opens event setting is)
-          | inr call ↦ rw call.1 (call_both setting quiet event call.0 (gated config ms) (gated config others) (rw is at (some event)) (rw call.1 at from) (h.opens event setting is))
-        ]) in
-        grind (arith, h, arrived, opens, same_arrival, joined_more config ms m, joined_more config others m, same_joined m, passed_more config ms m, passed_more config others m, same_passed m, same_ending m)
+    both : HaveIntervals config → (m : Moment) → IsFrom quiet m → AreAlike (m ∷ ms) (m ∷ others)
+    both some m from = grind (arith, h.mode, h.state, more_opens some m from, more_endings m)
 
     -- and with one at which a turn closes nothing
-    none_closes : (event : ℕ) → closing_item (event_at config event).aggregate event quiet (gated config others) ≡ None
-        → AreAlike (closes quiet event ∷ ms) others
+    none_closes : (event : ℕ) → given config others (endings config others) quiet event ≡ None → AreAlike (closes quiet event ∷ ms) others
     none_closes event none =
-        let given = same_item event quiet ∙ none in
         let opens : (other : ℕ) → AreOpenOf other (closes quiet event ∷ ms) others = λ other setting is.
-        let own = h.opens other setting is in
-        elim (cases_eq event other) [
-          | inl same ↦
-              let closed = close_none setting quiet quiet (closing_ticks other (gated config ms)) (closing_ticks other (gated config others))
-              (windows_in setting.interval other (gated config others)) (rw (same, is) at none) own.now in
-              grind (arith, nat_tests, same, closed, own)
-          | inr differ ↦ grind (arith, nat_tests, differ, own)
+        elim (cases_Bool (event == other)) [
+          | inl same ↦ rw same (close_none setting quiet _ _ _ (rw (eqb-true _ _ same, is) at none) (h.opens other setting is))
+          | inr differ ↦ rw differ (h.opens other setting is)
         ] in
-        grind (arith, h, opens, given, joined_more config ms (closes quiet event), passed_more config ms (closes quiet event))
+        record { mode = h.mode; state = h.state; opens = opens; endings = rw (h.endings, same_given quiet event, none) refl }
 
   -- with moments more
-  all_both : HaveIntervals config → {B : Type 0} (f : B → Moment)
-      → ((y : B) (ms : List Moment) → IfSome (gated_at config ms (f y)) (λ call. quiet ≤ call_tick call))
+  all_both : HaveIntervals config → {B : Type 0} (f : B → Moment) → ((y : B) → IsFrom quiet (f y))
       → (more : List B) (ms others : List Moment) → AreAlike ms others → AreAlike (with_all ms (map f more)) (with_all others (map f more))
   all_both some f from [] ms others h = h
-  all_both some f from (y ∷ more) ms others h = all_both some f from more _ _ (both ms others h some (f y) (from y others))
+  all_both some f from (y ∷ more) ms others h = all_both some f from more _ _ (both ms others h some (f y) (from y))
 
-  act_from : (tick : ℕ) (act : Act (List ℕ)) (ms : List Moment) → quiet ≤ tick
-      → IfSome (gated_at config ms (act_moment tick act)) (λ call. quiet ≤ call_tick call)
-  act_from tick (Report event count stamp context) ms from = grind (arith, from)
-  act_from tick _ ms from = tt
+  act_from : (tick : ℕ) (act : Act (List ℕ)) → quiet ≤ tick → IsFrom quiet (act_moment tick act)
+  act_from tick (Report event count stamp context) from = from
+  act_from tick _ from = tt
 
 -- ---- turns
 
@@ -156,21 +152,23 @@ module _ (config : Parts) (some : HaveIntervals config) (before : List Turn) (tu
         omega (arith, by.0, h.0),
         simp with_all-append (
             all_both config (tick_of turn) some (λ (entry : Entry (List ℕ)). act_moment at entry.act)
-            (λ entry ms. act_from config (tick_of turn) at entry.act ms from) x.entries _ _ (
-            all_both config (tick_of turn) some (head_moment at) (λ (head : Head) ms. grind (arith, from)) (heads_of (internal_of config) x.head) _ _ (
-            all_both config (tick_of turn) some (closes at) (λ event ms. from) (range_with_len 0 (length config.events)) _ _ h.1))),
+            (λ entry. act_from config (tick_of turn) at entry.act from) x.entries _ _ (
+            all_both config (tick_of turn) some (head_moment at) (λ (head : Head). from) (heads_of (internal_of config) x.head) _ _ (
+            all_both config (tick_of turn) some (closes at) (λ event. from) (range_with_len 0 (length config.events)) _ _ h.1))),
       )
 
   pub quiet_same : (after : List Turn) (tick : ℕ) → EndBy tick_of tick (whole after) → TellTheSame config (whole after) (after ++ before)
   quiet_same after tick by =
-      let h = (alike after tick by).1 in
-      let qualified = h.qualified in
-      record { qualified = qualified; messages = rw qualified refl; memory = rw qualified refl; endings = h.endings; accounts = λ event. rw h.endings refl }
+      let same = (alike after tick by).1.endings in
+      record { qualified = rw same refl; messages = rw same refl; memory = rw same refl; endings = same; accounts = λ event. rw same refl }
+
+  same_held : (after : List Turn) (tick : ℕ) → EndBy tick_of tick (whole after) → held_count config (whole after) ≡ held_count config (after ++ before)
+  same_held after tick by = rw (quiet_same after tick by).endings refl
 
   pub quiet_handed : (after : List Turn) (tick : ℕ) → EndBy tick_of tick (whole after) → handed_on config before ≡ 0
       → handed_on config (whole after) ≡ handed_on config (after ++ before)
-  quiet_handed [] tick by none = rw ((quiet_same [] tick by).qualified, none) (omega arith)
-  quiet_handed (x ∷ after) tick by none = rw ((quiet_same (x ∷ after) tick by).qualified, (quiet_same after (tick_of x) by.1).qualified) refl
+  quiet_handed [] tick by none = omega (arith, same_held [] tick by, none)
+  quiet_handed (x ∷ after) tick by none = omega (arith, same_held (x ∷ after) tick by, same_held after (tick_of x) by.1)
 
   pub quiet_causal : (after : List Turn) (tick : ℕ) → EndBy tick_of tick (whole after)
       → IsCausal config (whole after) ↔ ((handed_on config before ≡ 0) × IsCausal config (after ++ before))

@@ -1,9 +1,7 @@
--- Aggregation: the items of a window become one.
+-- Aggregation: what the one item of a window has of those that came into it.
 -- Public standard: AUTOSAR SWS Intrusion Detection System Manager, aggregation filter.
 use Rattle.std.specs.Prelude.{ℕ, min, Bool, List, [], ◌∷◌, Option, if◌then◌else◌}
 use Rattle.std.specs.Option.{option_or}
-use Rattle.ids_types.specs.declared.event.Qualified.{Qualified}
-use Rattle.chain_spec.specs.Calls.{Arrival}
 use Rattle.chain_spec.specs.Windows.{Window, sum_of}
 
 -- the context data of the first item that has some: the opener, and then the others
@@ -24,12 +22,3 @@ kept_of last context_of w =
 -- the count of a window: the sum of the counts, at most 65,535
 abbrev pub count_of : {A : Type 0} → (A → ℕ) → Window A → ℕ
 count_of counts w = min (sum_of counts w) 65535
-
--- the one item of a window: the counts together, the opener's timestamp, and the context data kept
-abbrev pub joined : {C : Type 0} → Bool → Window (Arrival C) → Qualified C
-joined last w = record {
-  event = w.opener.told.event;
-  count = count_of (λ arrival. arrival.told.count) w;
-  stamp = w.opener.told.stamp;
-  context = kept_of last (λ arrival. arrival.told.context) w;
-}

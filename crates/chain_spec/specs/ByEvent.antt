@@ -5,10 +5,9 @@ use Rattle.std.specs.Option.{option_or}
 use Rattle.ids_types.specs.Turns.{Turn}
 use Rattle.ids_config.specs.declared.parts.Aggregate.{Aggregate}
 use Rattle.ids_config.specs.declared.parts.Window.{Window as Setting}
-use Rattle.chain_spec.specs.Aggregation.{joined}
-use Rattle.chain_spec.specs.Calls.{Arrival}
 use Rattle.chain_spec.specs.Counting.{counted}
-use Rattle.chain_spec.specs.Items.{Item, told_of, item_at}
+use Rattle.chain_spec.specs.Items.{Item}
+use Rattle.chain_spec.specs.OpenWindows.{joined}
 use Rattle.chain_spec.specs.Stages.{added, where_true}
 use Rattle.chain_spec.specs.Threshold.{verdict}
 use Rattle.chain_spec.specs.Windows.{Window, windows_of}
@@ -26,20 +25,16 @@ abbrev pub first_from : ℕ → List ℕ → Option ℕ
 first_from least [] = None
 first_from least (tick ∷ before) = option_or (first_from least before) (where_true (nat_le least tick) tick)
 
--- the item as an arrival
-abbrev pub arrival_of : Item → Arrival (List ℕ)
-arrival_of item = record { tick = item.tick; told = told_of item }
-
 -- the one item of a window, at the first of the turns' ticks at which it is due, if there is one
-abbrev pub closed_item : Aggregate → List ℕ → Window (Arrival (List ℕ)) → Option Item
+abbrev pub closed_item : Aggregate → List ℕ → Window Item → Option Item
 closed_item setting ticks w =
-    option_map (λ tick. item_at tick (joined setting.last w)) (first_from (w.opener.tick + setting.interval) ticks)
+    option_map (λ tick. joined setting.last tick w) (first_from (w.opener.tick + setting.interval) ticks)
 
 -- the items of an event after aggregation, over turns at these ticks: one for each window that closes
 abbrev pub closed_items : Option Aggregate → List ℕ → List Item → List Item
 closed_items None ticks items = items
 closed_items (Some setting) ticks items =
-    filter_map (closed_item setting ticks) (windows_of (λ one. one.tick) setting.interval (map arrival_of items))
+    filter_map (closed_item setting ticks) (windows_of (λ item. item.tick) setting.interval items)
 
 -- the items of an event that pass its threshold
 abbrev pub reaching : Option Setting → List Item → List Item

@@ -1,13 +1,13 @@
--- The filters that look at one event alone: reporting mode, block state, and forward every nth.
+-- Reporting mode and block state after moments, and what a mode leaves of an item.
 -- Public standard: AUTOSAR SWS Intrusion Detection System Manager, filter chain.
-use Rattle.std.specs.Prelude.{ℕ, ◌+◌, ◌%◌, ◌==◌, ◌&&◌, not, Bool, true, false, List, length, filter_map, Option, Some, None, if◌then◌else◌}
+use Rattle.std.specs.Prelude.{ℕ, ◌==◌, Bool, true, false, List, filter_map, Option, Some, None, if◌then◌else◌}
 use Rattle.std.specs.List.{list_any}
 use Rattle.ids_types.specs.declared.mode.Mode.{Mode}
 use Rattle.ids_types.specs.declared.mode.Mode.TheVariants.{Brief, Detailed, BriefBypassing, DetailedBypassing}
 use Rattle.ids_config.specs.Parts.{Parts, event_at}
-use Rattle.chain_spec.specs.Items.{Item, is_of}
-use Rattle.chain_spec.specs.Moments.{Moment, comes, state_is, mode_is}
-use Rattle.chain_spec.specs.Stages.{added, where_true, newest_else}
+use Rattle.chain_spec.specs.Items.{Item}
+use Rattle.chain_spec.specs.Moments.{Moment, state_is, mode_is}
+use Rattle.chain_spec.specs.Stages.{where_true, newest_else}
 
 -- ---- reporting mode and state
 
@@ -51,9 +51,9 @@ state_at config before = newest_else config.state (filter_map state_set before)
 abbrev pub is_blocked : Parts → ℕ → List Moment → Bool
 is_blocked config event before = list_any (λ state. state == state_at config before) (event_at config event).block
 
--- ---- arrivals
+-- ---- items
 
--- the item, without its context data where the mode is a brief one
+-- the item, without its context data if the mode is a brief one
 abbrev pub item_in : Mode → Item → Item
 item_in mode item = record {
   event = item.event;
@@ -62,40 +62,3 @@ item_in mode item = record {
   stamp = item.stamp;
   context = if is_detailed mode then item.context else None;
 }
-
--- an item of the event passes reporting mode and block state after these moments
-abbrev pub is_arriving : Parts → ℕ → List Moment → Bool
-is_arriving config event before = is_filtered (mode_at config event before) && not (is_blocked config event before)
-
--- the item of this event that passes both, as the mode leaves it
-abbrev pub arrival_at : Parts → ℕ → List Moment → Moment → Option Item
-arrival_at config event before (comes item) =
-    where_true (is_of event item && is_arriving config event before) (item_in (mode_at config event before) item)
-arrival_at config event before _ = None
-
--- the arrivals of an event: its items that pass reporting mode and block state
-abbrev pub arrivals : Parts → ℕ → List Moment → List Item
-arrivals config event moments = added (arrival_at config event) moments
-
--- ---- forward every nth
-
--- the next arrival of the event is an nth one: its rank, from 1, is a multiple of n
-abbrev pub is_nth : Parts → ℕ → List Moment → Bool
-is_nth config event before = (length (arrivals config event before) + 1) % (event_at config event).nth == 0
-
--- the arrival at a moment, where it is an nth one
-abbrev pub sampled_at : Parts → ℕ → List Moment → Moment → Option Item
-sampled_at config event before moment = if is_nth config event before then arrival_at config event before moment else None
-
--- the sampled items of an event: every nth of its arrivals
-abbrev pub sampled : Parts → ℕ → List Moment → List Item
-sampled config event moments = added (sampled_at config event) moments
-
--- ---- the bypassing modes
-
--- the item that bypasses the filters at a moment, as the mode leaves it
-abbrev pub bypassing_at : Parts → List Moment → Moment → Option Item
-bypassing_at config before (comes item) =
-    let mode = mode_at config item.event before in
-    where_true (is_bypassing mode) (item_in mode item)
-bypassing_at config before _ = None

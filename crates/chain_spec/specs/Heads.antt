@@ -11,7 +11,7 @@ pub record Head : Type 0 where
   pub event : EventIndex
   pub count : ℕ
 
--- the internal event that tells a number, where it is configured and the number is above 0
+-- the internal event that tells a number, if it is configured and the number is above 0
 abbrev pub head_for : Option EventIndex → ℕ → List Head
 head_for None number = []
 head_for (Some event) number = if number == 0 then [] else record { event = event; count = min number 65535 } ∷ []

@@ -7,7 +7,7 @@ use Rattle.ids_types.specs.declared.event.Qualified.{Qualified}
 use Rattle.ids_types.specs.declared.names.Stamp.{Stamp}
 
 -- a security event with the tick of its turn and its count, and with its timestamp and its context data
--- where it has them
+-- if it has them
 pub record Item : Type 0 where
   pub event : ℕ
   pub tick : ℕ
@@ -35,7 +35,7 @@ item_at tick told = record { event = told.event.0; tick = tick; count = told.cou
 abbrev pub told_by : {A B : Type 0} → (A → B) → Qualified A → Qualified B
 told_by f told = record { event = told.event; count = told.count; stamp = told.stamp; context = option_map f told.context }
 
--- the context data of a report, which it has where they are kept
+-- the context data of a report, which it has if they are kept
 abbrev pub kept_parcel : {B : Type 0} → Carried B → Option B
 kept_parcel Absent = None
 kept_parcel (Kept class claim parcel) = Some parcel

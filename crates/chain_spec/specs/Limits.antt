@@ -38,7 +38,7 @@ passes_rate rate before candidate = has_room rate (λ one. 1) before candidate
 abbrev pub passes_traffic : Option Limit → List Candidate → Candidate → Bool
 passes_traffic traffic sent candidate = has_room traffic (λ one. one.bytes) sent candidate
 
--- the candidate is sent, where these came before it and these of them were sent
+-- the candidate is sent, if these came before it and these of them were sent
 abbrev pub is_sent : Option Limit → Option Limit → List Candidate → List Candidate → Candidate → Bool
 is_sent rate traffic before sent candidate = passes_rate rate before candidate && passes_traffic traffic sent candidate
 
@@ -46,6 +46,6 @@ is_sent rate traffic before sent candidate = passes_rate rate before candidate &
 abbrev pub sent_of : Option Limit → Option Limit → List Candidate → List Candidate
 sent_of rate traffic candidates = passed (is_sent rate traffic) candidates
 
--- whether the next candidate is sent, where these came before it
+-- whether the next candidate is sent, if these came before it
 abbrev pub is_let_out : Option Limit → Option Limit → List Candidate → Candidate → Bool
 is_let_out rate traffic before candidate = is_sent rate traffic before (sent_of rate traffic before) candidate

@@ -1,13 +1,11 @@
 -- The lists of the filter chain, read off the endings of a history. Each has its newest item first.
 -- Public standard: AUTOSAR SWS Intrusion Detection System Manager, filter chain, and rate and traffic limitation after
 -- it. What counts as held back is this project's own.
-use Rattle.std.specs.Prelude.{ℕ, ◌&&◌, not, Bool, List, map, filter}
+use Rattle.std.specs.Prelude.{ℕ, ◌&&◌, not, Bool, List, filter}
 use Rattle.ids_config.specs.Parts.{Parts, event_at, is_given}
 use Rattle.chain_spec.specs.Fates.{Fate, AtNth, InWindow, AtThreshold, AtSend, AtRate, Sent, is_limited}
 use Rattle.chain_spec.specs.Items.{Item, is_of}
-use Rattle.chain_spec.specs.Memory.{Stored}
 use Rattle.chain_spec.specs.Moments.{Moment}
-use Rattle.chain_spec.specs.Storing.{stored_of}
 use Rattle.chain_spec.specs.Way.{Ending, endings, items_where, passes, reaches}
 
 -- the items that reached a step
@@ -53,7 +51,3 @@ held config moments = items_where (is_held config) (endings config moments)
 -- it is qualified, and its event is to be stored
 abbrev pub stores : Parts → Ending → Bool
 stores config one = reaches AtSend one && (event_at config one.item.event).store
-
--- the qualified events that are stored
-abbrev pub stored : Parts → List Moment → List Stored
-stored config moments = map (stored_of config) (items_where (stores config) (endings config moments))

@@ -33,7 +33,7 @@ abbrev pub since : ℕ → List Stored → List Stored
 since event [] = []
 since event (item ∷ before) = if event_of item == event then [] else item ∷ since event before
 
--- an item begins a new record, where there are at most k and these items came before it: it is the first of its
+-- an item begins a new record, if there are at most k and these items came before it: it is the first of its
 -- event, or its record was displaced, since k other events were stored after it
 abbrev pub renews : ℕ → Stored → List Stored → Bool
 renews k item before =

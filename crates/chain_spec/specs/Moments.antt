@@ -11,7 +11,7 @@ use Rattle.chain_spec.specs.Heads.{Head, heads_of}
 use Rattle.chain_spec.specs.Items.{Item, kept_parcel}
 use Rattle.chain_spec.specs.Stages.{with_all}
 
--- an event's aggregation window closes where it is due at this tick; an item comes; the state of the block
+-- an event's aggregation window closes if it is due at this tick; an item comes; the state of the block
 -- state filter, or an event's reporting mode, becomes another
 pub data Moment : Type 0 where
   closes : (tick event : ℕ) → Moment

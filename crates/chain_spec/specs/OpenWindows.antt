@@ -1,11 +1,10 @@
 -- Which window of an event is open, and what it gives when it closes: at the first turn whose tick is at least its
 -- opener's plus the interval.
 -- Public standard: AUTOSAR SWS Intrusion Detection System Manager, aggregation filter.
-use Rattle.std.specs.Prelude.{ℕ, ◌+◌, ◌==◌, nat_le, Bool, List, filter_map, Option, Some, None, option_and_then, option_map, not}
+use Rattle.std.specs.Prelude.{ℕ, ◌+◌, ◌==◌, nat_le, Bool, List, [], ◌∷◌, filter_map, Option, Some, None, option_and_then, option_map, not}
 use Rattle.std.specs.List.{list_any}
 use Rattle.ids_config.specs.declared.parts.Aggregate.{Aggregate}
 use Rattle.chain_spec.specs.Aggregation.{count_of, kept_of}
-use Rattle.chain_spec.specs.Closing.{newest_where}
 use Rattle.chain_spec.specs.Items.{Item}
 use Rattle.chain_spec.specs.Moments.{Moment, closes}
 use Rattle.chain_spec.specs.Stages.{where_true}
@@ -23,6 +22,11 @@ closing_ticks event moments = filter_map (closing_of event) moments
 -- the window is due at a tick
 abbrev pub is_due : ℕ → ℕ → Window Item → Bool
 is_due interval tick w = nat_le (w.opener.tick + interval) tick
+
+-- the newest element, if it passes the test
+abbrev pub newest_where : {A : Type 0} → (A → Bool) → List A → Option A
+newest_where test [] = None
+newest_where test (x ∷ before) = where_true (test x) x
 
 -- the window of these items that no turn at these ticks closed
 abbrev pub open_window : ℕ → List ℕ → List Item → Option (Window Item)

@@ -5,11 +5,9 @@ use Rattle.ids_types.specs.Turns.{Turn}
 use Rattle.ids_config.specs.Parts.{Parts, event_at}
 use Rattle.chain_spec.specs.Accounts.{account_of}
 use Rattle.chain_spec.specs.Chain.{qualified_of, messages}
-use Rattle.chain_spec.specs.Closing.{closing_item}
-use Rattle.chain_spec.specs.Endings.{endings}
-use Rattle.chain_spec.specs.Filtering.{gated}
 use Rattle.chain_spec.specs.Moments.{moments}
 use Rattle.chain_spec.specs.Storing.{memory}
+use Rattle.chain_spec.specs.Way.{endings, given}
 
 -- each interval of aggregation has at least one tick, as those of a valid configuration do
 abbrev pub HaveIntervals : Parts → Type 0
@@ -18,7 +16,7 @@ HaveIntervals config = (event : ℕ) → IfSome (event_at config event).aggregat
 -- no window that is open after these turns is due at the tick
 abbrev pub NoneDue : Parts → List Turn → ℕ → Type 0
 NoneDue config before tick =
-    (event : ℕ) → closing_item (event_at config event).aggregate event tick (gated config (moments config before)) ≡ None
+    (event : ℕ) → let ms = moments config before in given config ms (endings config ms) tick event ≡ None
 
 -- a turn after these is quiet: it has no entries and no count to tell, and no window is due at its tick
 pub record IsQuiet (config : Parts) (before : List Turn) (turn : Turn) : Type 0 where

@@ -1,21 +1,22 @@
 -- Stages: lists that grow by what each new element adds. A list stands with its newest element first, so
 -- what came before an element is the rest of the list.
-use Rattle.std.specs.Prelude.{◌∷◌, ◌++◌, List, [], Bool, Option, Some, None, option_to_list, option_and_then, if◌then◌else◌}
-
--- a stage: what a new element adds, if anything, where these elements came before it
-abbrev pub Stage : Type 0 → Type 0 → Type 0
-Stage A B = List A → A → Option B
+use Rattle.std.specs.Prelude.{ℕ, ◌<◌, ◌∷◌, ◌++◌, List, [], Bool, Option, Some, None, length, option_to_list, option_map, AllPairs, if◌then◌else◌}
 
 -- what the elements added, each by those before it
-abbrev pub added : {A B : Type 0} → Stage A B → List A → List B
+abbrev pub added : {A B : Type 0} → (List A → A → Option B) → List A → List B
 added stage [] = []
 added stage (x ∷ before) = option_to_list (stage before x) ++ added stage before
 
--- one stage and then a second, which sees what the first added
-abbrev pub behind : {A B C : Type 0} → Stage A B → Stage B C → Stage A C
-behind first second before x = option_and_then (second (added first before)) (first before x)
+-- what they added, each with its place: how many elements came before it
+abbrev pub placed : {A B : Type 0} → (List A → A → Option B) → List A → List (ℕ × B)
+placed stage [] = []
+placed stage (x ∷ before) = option_to_list (option_map (λ y. (length before, y)) (stage before x)) ++ placed stage before
 
--- the element, where the test holds
+-- of any two the newer one has the greater place, so no two have one
+abbrev pub HaveOwnPlaces : {B : Type 0} → List (ℕ × B) → Type 0
+HaveOwnPlaces placed = AllPairs (λ newer older. older.0 < newer.0) placed
+
+-- the element, if the test holds
 abbrev pub where_true : {A : Type 0} → Bool → A → Option A
 where_true test x = if test then Some x else None
 

@@ -18,7 +18,7 @@ pub record Seen : Type 0 where
   pub reached : List Item
   pub passed : List Item
 
--- the next of its event's items is an nth one, where so many reached the step before it
+-- the next of its event's items is an nth one, if so many reached the step before it
 abbrev pub is_nth : ℕ → ℕ → Bool
 is_nth nth before = (before + 1) % nth == 0
 

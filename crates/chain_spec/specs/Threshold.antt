@@ -15,7 +15,7 @@ abbrev pub sum_with : ℕ → Occurrence → List Occurrence → ℕ
 sum_with interval item before =
     newest_sum (λ one. one.count) (windows_of (λ one. one.tick) interval (item ∷ among item.event before))
 
--- whether an item passes, where these came before it: without a threshold it does
+-- whether an item passes, if these came before it: without a threshold it does
 abbrev pub verdict : Option Setting → Occurrence → List Occurrence → Bool
 verdict None item before = true
 verdict (Some setting) item before = nat_le setting.number (sum_with setting.interval item before)

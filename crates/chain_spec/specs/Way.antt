@@ -10,7 +10,6 @@ use Rattle.chain_spec.specs.Gate.{mode_at, item_in, is_bypassing}
 use Rattle.chain_spec.specs.Items.{Item, is_of}
 use Rattle.chain_spec.specs.Moments.{Moment, comes, closes}
 use Rattle.chain_spec.specs.OpenWindows.{closing_item, closing_ticks}
-use Rattle.chain_spec.specs.Stages.{Stage}
 use Rattle.chain_spec.specs.Steps.{Seen, holds}
 
 -- an item, the step at which its way began, and its fate
@@ -18,6 +17,14 @@ pub record Ending : Type 0 where
   pub item : Item
   pub first : Fate
   pub fate : Fate
+
+-- its way began at a step
+abbrev pub begun_at : Fate → Ending → Bool
+begun_at step one = place_of one.first == place_of step
+
+-- it ended at a step
+abbrev pub ends_at : Fate → Ending → Bool
+ends_at step one = place_of one.fate == place_of step
 
 -- it came to a step
 abbrev pub reaches : Fate → Ending → Bool
@@ -29,7 +36,7 @@ passes step one = nat_le (place_of one.first) (place_of step) && nat_lt (place_o
 
 -- a window gave it: its way began after the windows
 abbrev pub by_window : Ending → Bool
-by_window one = place_of one.first == place_of AtThreshold
+by_window one = begun_at AtThreshold one
 
 -- the items of the endings that pass a test
 abbrev pub items_where : (Ending → Bool) → List Ending → List Item
@@ -72,5 +79,5 @@ endings config (moment ∷ before) =
     let past = endings config before in option_to_list (ending_after config before past moment) ++ past
 
 -- the ending at a moment after these moments
-abbrev pub ending_at : Parts → Stage Moment Ending
+abbrev pub ending_at : Parts → List Moment → Moment → Option Ending
 ending_at config before moment = ending_after config before (endings config before) moment

@@ -27,8 +27,11 @@ pub enum Fate {
     Sent,
 }
 
+/// How many steps there are.
+pub const STEPS: usize = 9;
+
 /// Every fate, in the order of the steps.
-pub const FATES: [Fate; 9] = [
+pub const FATES: [Fate; STEPS] = [
     Fate::AtMode,
     Fate::AtBlock,
     Fate::AtNth,

@@ -108,8 +108,8 @@ lent parcel = parcel.0.now
 -- the chain is that of this configuration and took no turn yet, and the desk has room for its turns
 pub record IsNewFolding (config : Parts) (folding : Folding) : Type 0 where
   pub stands_for_none : Stands lent config [] folding.chain
-  pub all_events : length folding.chain.filters.windows ≡ length config.events
-  pub nothing_kept : all_kept folding.chain.filters.windows ≡ []
+  pub all_events : length folding.chain.way.windows ≡ length config.events
+  pub nothing_kept : all_kept folding.chain.way.windows ≡ []
   pub ready : IsReady (length config.events) folding.desk
 
 -- the end of work whose store could not be begun

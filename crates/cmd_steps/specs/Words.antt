@@ -1,6 +1,6 @@
 -- The names that the contracts of runs cite.
 pub use Rattle.chain_plain.specs.declared.folded.Folded.{Folded}
-pub use Rattle.chain_spec.specs.Chain.{IsCausal, messages, sent}
+pub use Rattle.chain_spec.specs.Chain.{IsCausal, messages}
 pub use Rattle.cmd_files.specs.{file_of, plain_end, plain_stop, Judges, Reads, if_found, seen_as, Puts, Says, Tells, put_status, CanWrite, Cuts, names_of, output_of, stop_of_write}
 pub use Rattle.cmd_spec.specs.{one_file, seal_refusal, task_stop, unseal_refusal, EndsOrFails, EndsWith, folded_in, held_back_line, IsOneHistory, AskedFor, Does, Recorded, Task, asked_in, bad_journal, bad_trace, check_judged, config_in, does, fold_work, gen_work, judge, key_judged, keyed_in, messages_judged, migrates, only_said, packs, reading_of, recorded_in, replays, reports, seals, unpacks, unseals, pack_refusal, units_text, unpack_refusal, lost_contexts, replay_outputs, replay_text, replay_work, without_context, clashes, is_of, report_text, source_in, sources_in, EndsAs, Ran, RanCommand, StopsFor, WasDone, written_of}
 pub use Rattle.cmd_spec.specs.Fold.{fold_line, fold_outputs}

@@ -1,10 +1,9 @@
 pub mod Names
-mod CallLemmas
 mod ClosingLemmas
-mod FateLemmas
-mod FlowLemmas
 mod Going
 mod HandsLemmas
 mod HeadLemmas
+mod RestLemmas
 mod RoomLemmas
 mod SoundLemmas
+mod WayLemmas

@@ -1,17 +1,11 @@
-pub mod Behind
 pub mod Chained
-pub mod Fates
-pub mod Flow
 pub mod Kept
 pub mod Names
-pub mod Outlets
 pub mod Ready
 pub mod Room
 pub mod Standing
-pub use Rattle.event_chain.specs.Behind.{kept_told, IsBehind}
-pub use Rattle.event_chain.specs.Chained.{Watched, IsOneOf, IsSound}
-pub use Rattle.event_chain.specs.Fates.{told, bare, ending_of, Knowing, counted_fate, passed_fate}
-pub use Rattle.event_chain.specs.Flow.{EndAt, CountingStands, Flows, joined_with, items_with}
-pub use Rattle.event_chain.specs.Outlets.{Stores, OutletStands}
-pub use Rattle.event_chain.specs.Ready.{HasEvent, CanCount, SettledAt, is_aggregated, aggregating_in, AreOwn, Windowed, HasPlaces, CanSend, HasSentRoom, TakesRoom, IsReady, Stays}
-pub use Rattle.event_chain.specs.Standing.{Rests, StandsWatched, Stands}
+pub mod Told
+pub use Rattle.event_chain.specs.Chained.{Watched, windows_in, chain_events, chain_kept, IsOneOf, IsSound}
+pub use Rattle.event_chain.specs.Ready.{HasEvent, CanTake, SettledAt, is_aggregated, aggregating_in, AreOwn, Windowed, HasPlaces, CanSend, TakesRoom, HasLeft, Stays, Moved}
+pub use Rattle.event_chain.specs.Standing.{Weighs, Follows, start_by, BeginsBy, Start, start_of, HasSent, Went, Outcome, Leaves, ended_tick, EndAt, IsAt, IsBehind, Leads, Rests, StandsWatched, Stands}
+pub use Rattle.event_chain.specs.Told.{told, bare, ending_of, Knowing, here, entry_moments}

@@ -1,24 +1,22 @@
 -- What keeps each call safe, whatever was before: as plain data.
-use Rattle.std.specs.Prelude.{◌≡◌, ℕ, ◌+◌, ◌*◌, ◌<◌, ◌-◌, ◌^◌, ◌≤◌, List, length, filter, Bool, is_some, IfSome}
-use Rattle.std.specs.Bool.{IsFalse}
-use Rattle.std.specs.List.{range_with_len}
-use Rattle.event_chain.specs.Names.{Slot, Output, room_of}
-use Rattle.chain_spec.specs.Items.{Item}
-use Rattle.filter_chain.specs.Turning.{carried_room}
-use Rattle.filter_aggregate.specs.Slots.{is_due, slot_at}
-use Rattle.message_sender.specs.Sender.{CanQualify}
-use Rattle.event_chain.specs.declared.counting.Counting.{Counting}
-use Rattle.event_chain.specs.declared.filters.Filters.{Filters}
+use Rattle.std.specs.Prelude.{◌≡◌, ℕ, ◌+◌, ◌++◌, ◌*◌, ◌<◌, ◌-◌, ◌^◌, ◌≤◌, List, length, filter, Bool, is_some, IfSome, Vec, vec_capacity}
+use Rattle.event_chain.specs.Names.{IsFalse, Global, range_with_len, all_kept, Slot, Output, room_of, Item, IsShort, most_message, HandsBack, carried_room, is_due, slot_at}
+use Rattle.event_chain.specs.declared.rest.Rest.{Rest}
+use Rattle.event_chain.specs.declared.way.Way.{Way}
 
--- event k has its place in each list of the threshold filter and after it
-pub record HasEvent (k : ℕ) (counting : Counting) : Type 0 where
-  pub threshold : k < length counting.thresholds
-  pub source : k < length counting.outlet.sender.sources
+-- event k has its place in each list after the windows
+pub record HasEvent (k : ℕ) (rest : Rest) : Type 0 where
+  pub threshold : k < length rest.thresholds
+  pub source : k < length rest.sources
 
--- an item can be counted
-pub record CanCount (counting : Counting) (item : Item) (out : Output) : Type 0 where
-  pub has : HasEvent item.event counting
-  pub can : CanQualify counting.outlet.sender item out
+-- an item can be taken: it is one of the chain's with short context data, and there is room for its message and for one
+-- more that is held back
+pub record CanTake (rest : Rest) (item : Item) (out : Output) : Type 0 where
+  pub has : HasEvent item.event rest
+  pub context : IfSome item.context IsShort
+  pub few_held : rest.sender.held < 2 ^ 45
+  pub room : most_message item.context ≤ out.sent_left
+  pub few_messages : out.messages < 2 ^ 32 - 1
 
 -- no window is due at a tick
 abbrev pub SettledAt : {B : Type 0} → ℕ → List (Slot B) → Type 0
@@ -45,35 +43,40 @@ pub record Windowed {B : Type 0} (tick : ℕ) (old new : List (Slot B)) : Type 0
   pub settled : (k : ℕ) → IsFalse (is_due tick (slot_at old k)) → IsFalse (is_due tick (slot_at new k))
 
 -- each event has its place in every list, and each open window is its event's own
-pub record HasPlaces {B W : Type 0} (filters : Filters B W) : Type 0 where
-  pub gate : (k : ℕ) → k < length filters.windows → k < length filters.gate.rows
-  pub has : (k : ℕ) → k < length filters.windows → HasEvent k filters.counting
-  pub own : AreOwn filters.windows
+pub record HasPlaces {B W : Type 0} (way : Way B W) : Type 0 where
+  pub gate : (k : ℕ) → k < length way.windows → k < length way.gate.rows
+  pub has : (k : ℕ) → k < length way.windows → HasEvent k way.rest
+  pub own : AreOwn way.windows
 
 -- so many messages more can be counted, and as many that are held back
-pub record CanSend {B W : Type 0} (n : ℕ) (filters : Filters B W) (out : Output) : Type 0 where
-  pub few_held : filters.counting.outlet.sender.held + n ≤ 2 ^ 45
+pub record CanSend {B W : Type 0} (n : ℕ) (way : Way B W) (out : Output) : Type 0 where
+  pub few_held : way.rest.sender.held + n ≤ 2 ^ 45
   pub few_messages : out.messages + n ≤ 2 ^ 32 - 1
-
--- there is room for so many messages more, with the context data of these parcels
-abbrev pub HasSentRoom : {B : Type 0} → (B → List ℕ) → ℕ → List B → Output → Type 0
-HasSentRoom held n parcels out = 16 * n + carried_room held parcels ≤ out.sent_left
 
 -- so many moments took room for as many messages at most, with the context data of the parcels that they handed back
 abbrev pub TakesRoom : {B : Type 0} → (B → List ℕ) → ℕ → List B → List B → Output → Output → Type 0
 TakesRoom held moments back_before back_now before after =
     before.sent_left + carried_room held back_before ≤ after.sent_left + carried_room held back_now + 16 * moments
 
--- an act can enter at a tick: no window is due any more, and one message more can be counted
-pub record IsReady {B W : Type 0} (tick : ℕ) (filters : Filters B W) (out : Output) : Type 0 where
-  pub places : HasPlaces filters
-  pub settled : SettledAt tick filters.windows
-  pub can : CanSend 1 filters out
+-- so many moments more can come with these parcels: there is room for their messages, and for all parcels to be handed back
+pub record HasLeft {B W : Type 0} (held : B → List ℕ) (n : ℕ) (came : List B) (way : Way B W) (back : Vec B Global) (out : Output) : Type 0 where
+  pub places : HasPlaces way
+  pub can : CanSend n way out
+  pub room : 16 * n + carried_room held (came ++ all_kept way.windows) ≤ out.sent_left
+  pub handed : length back.items + length (came ++ all_kept way.windows) ≤ vec_capacity back
 
 -- what so many moments leave as it was, and how much they count at most
-pub record Stays {B W : Type 0} (moments tick : ℕ) (old new : Filters B W) (before after : Output) : Type 0 where
+pub record Stays {B W : Type 0} (moments tick : ℕ) (old new : Way B W) (before after : Output) : Type 0 where
   pub places : HasPlaces old → HasPlaces new
   pub windows : Windowed tick old.windows new.windows
-  pub counted : new.counting.outlet.sender.held ≤ old.counting.outlet.sender.held + moments
+  pub counted : new.rest.sender.held ≤ old.rest.sender.held + moments
   pub messages : after.messages ≤ before.messages + moments
   pub room : room_of after ≡ room_of before
+
+-- so many moments came with these parcels, each of which was handed back or is kept
+pub record Moved {B W : Type 0} (held : B → List ℕ) (tick n : ℕ) (came : List B) (old new : Way B W) (was back : Vec B Global)
+    (before after : Output) : Type 0 where
+  pub stays : Stays n tick old new before after
+  pub sends : TakesRoom held n was.items back.items before after
+  pub parcels : HandsBack came (all_kept old.windows) (all_kept new.windows) was.items back.items
+  pub capacity : vec_capacity back ≡ vec_capacity was

@@ -1,13 +1,9 @@
 -- How many bytes the messages of a turn have at most: by the parcels that came with it and those that are kept. The chain's
 -- laws stand on it, so that their proofs are here.
-use Rattle.std.specs.Prelude.{ℕ, ◌+◌, ◌*◌, ◌≤◌, List, [], ◌∷◌, length}
-use Rattle.std.specs.List.{All}
-use Rattle.std.proofs.Common.{arith}
+use Rattle.std.proofs.Common.{arith, ℕ, ◌+◌, ◌*◌, ◌≤◌, List, [], ◌∷◌, length}
 use Rattle.std.proofs.lemmas.Grind.{common_steps}
-use Rattle.ids_types.specs.declared.entry.Entry.{Entry}
-use Rattle.filter_aggregate.specs.Account.{all_kept}
-use Rattle.event_chain.specs.Names.{Slot}
-use Rattle.filter_chain.specs.{IsShort, all_parcels, FitsLargest, FitsTurn, carried_room, most_sent}
+use Rattle.event_chain.specs.Names.{All, Entry, all_kept, Slot, all_parcels, carried_room}
+use Rattle.filter_chain.specs.{IsShort, FitsLargest, FitsTurn, most_sent}
 use Rattle.filter_chain.proofs.RoomLemmas.{carried_within, parcels_short, short_fit}
 
 -- 16 for each entry and event and for three internal events, and what the context data of the parcels take

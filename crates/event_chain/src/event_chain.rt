@@ -1,17 +1,11 @@
 //! The chain itself: the filters between two turns.
 
 ghost use Rattle.std.specs.Prelude.{◌≡◌, ◌<◌, [], List, true, false, length, ◌↔◌, map, refl, reverse, IfOk, IsOk};
-ghost use Rattle.ids_types.specs.Turns.{Turn};
-ghost use Rattle.ids_config.specs.Parts.{Parts};
-ghost use Rattle.filter_chain.specs.History.{rows_of};
-ghost use Rattle.chain_spec.specs.Quiet.{NoneDue};
-ghost use Rattle.chain_spec.specs.{mode_at, moments, state_at};
-ghost use Rattle.filter_aggregate.specs.{all_kept, is_due, slot_at};
-ghost use Rattle.std.specs.List.{list_any};
-ghost use Rattle.event_chain.specs.{aggregating_in, Stands, StandsWatched};
+ghost use Rattle.event_chain.specs.Names.{rows_of, Turn, Parts, mode_at, moments, state_at, is_due, slot_at, list_any, NoneDue};
+ghost use Rattle.event_chain.specs.{aggregating_in, chain_events, chain_kept, windows_in, Stands, StandsWatched};
 
-use crate::counting::Counting;
-use crate::filters::Filters;
+use crate::rest::Rest;
+use crate::way::Way;
 use crate::witness::{Unwatched, Witness};
 use event_memory::Memory;
 use filter_aggregate::Windows;
@@ -27,7 +21,7 @@ use std::marker::Model;
 /// may be told what becomes of each item.
 #[derive(Debug, Drop)]
 pub struct EventChain<B, W = Unwatched> {
-    filters: Filters<B, W>,
+    way: Way<B, W>,
     /// The events that are aggregated, in their order.
     aggregating: Vec<EventIndex>,
     internal: Internal,
@@ -51,8 +45,8 @@ impl<B: Parcel> EventChain<B> {
     /// with a request. Memory: made once. By: read off; none of its calls of `Chain` takes memory.
     pub fn make(alloc: Global, config: &Config) -> Result<EventChain<B>, NoMemory>
         ensures stands { IfOk result (Stands B.held config.now []) }
-        ensures events { IfOk result (λ chain. length chain.filters.windows ≡ length config.now.events) }
-        ensures kept { IfOk result (λ chain. all_kept chain.filters.windows ≡ []) }
+        ensures events { IfOk result (λ chain. chain_events chain ≡ length config.now.events) }
+        ensures kept { IfOk result (λ chain. chain_kept chain ≡ []) }
     {
         EventChain::watched(alloc, config, Unwatched)
     }
@@ -65,18 +59,18 @@ impl<B: Parcel, W: Witness> EventChain<B, W> {
     pub fn watched(alloc: Global, config: &Config, witness: W) -> Result<EventChain<B, W>, NoMemory>
         requires { W.knows witness config.now [] }
         ensures stands { IfOk result (StandsWatched B.held W.knows config.now []) }
-        ensures events { IfOk result (λ chain. length chain.filters.windows ≡ length config.now.events) }
-        ensures kept { IfOk result (λ chain. all_kept chain.filters.windows ≡ []) }
+        ensures events { IfOk result (λ chain. chain_events chain ≡ length config.now.events) }
+        ensures kept { IfOk result (λ chain. chain_kept chain ≡ []) }
     {
         // Names the parts, so that the proof knows that they are valid.
         let _parts = config.parts();
         let windows = Windows::make(alloc, config)?;
         Ok(EventChain {
             aggregating: aggregating(alloc, &windows)?,
-            filters: Filters {
+            way: Way {
                 gate: GateState::make(alloc, config)?,
                 windows,
-                counting: Counting::make(alloc, config)?,
+                rest: Rest::make(alloc, config)?,
                 witness,
             },
             internal: config.internal(),
@@ -88,16 +82,16 @@ impl<B: Parcel, W: Witness> EventChain<B, W> {
         ensures { (config : Parts) (turns : List Turn) → StandsWatched B.held W.knows config turns self.now →
             W.knows result.now config (moments config turns) }
     {
-        &self.filters.witness
+        &self.way.witness
     }
 
     /// The event's reporting mode after the last turn: the one that was set last, or else the configured one.
     pub fn mode(&self, event: EventIndex) -> Mode
-        requires { event.0 < length self.now.filters.windows }
+        requires { event.0 < chain_events self.now }
         ensures { (config : Parts) (turns : List Turn) → StandsWatched B.held W.knows config turns self.now →
             result ≡ mode_at config event.0 (moments config turns) }
     {
-        self.filters.gate.mode(event)
+        self.way.gate.mode(event)
     }
 
     /// The state after the last turn: the one that was changed to last, or else the configured one.
@@ -105,7 +99,7 @@ impl<B: Parcel, W: Witness> EventChain<B, W> {
         ensures { (config : Parts) (turns : List Turn) → StandsWatched B.held W.knows config turns self.now →
             result ≡ state_at config (moments config turns) }
     {
-        self.filters.gate.state()
+        self.way.gate.state()
     }
 
     /// Whether a turn at this tick closes a window. If not, and if it has no entries and no counts, it is quiet.
@@ -114,35 +108,34 @@ impl<B: Parcel, W: Witness> EventChain<B, W> {
         ensures { (config : Parts) (turns : List Turn) → StandsWatched B.held W.knows config turns self.now →
             (result ≡ false) ↔ NoneDue config turns tick }
     {
-        any_due(&self.filters.windows, &self.aggregating, tick)
+        any_due(&self.way.windows, &self.aggregating, tick)
     }
 
     /// The event memory after the last turn, once the chain has no more to take.
     /// Steps: the events, at most 256, let go. Memory: none; all but the memory is given back. By: read off.
+    #[tactic(auto, using(crate::proofs::SoundLemmas::rows_told))]
     pub fn into_memory(self) -> Memory
         ensures { (config : Parts) (turns : List Turn) → StandsWatched B.held W.knows config (reverse turns) self →
             reverse result.rows ≡ rows_of config turns }
     {
-        let Filters { counting, .. } = self.filters;
-        let Counting { outlet, .. } = counting;
-        outlet.memory
+        let Way { rest, .. } = self.way;
+        rest.memory
     }
 }
 
 impl<B: Parcel, W: Witness> Chain<B> for EventChain<B, W> {
-    ghost use Rattle.chain_spec.specs.Filtering.{gated};
     ghost use Rattle.event_chain.specs.Kept.{kept_among};
     ghost use Rattle.event_chain.specs.Room.{HasTurnRoom, bounded_turn};
 
     ghost stands = { λ chain config turns. StandsWatched B.held W.knows config (reverse turns) chain };
 
-    ghost events = { λ chain. length chain.filters.windows };
+    ghost events = { chain_events };
 
-    ghost kept = { λ chain. all_kept chain.filters.windows };
+    ghost kept = { chain_kept };
 
     ghost has_room = { λ chain entries bytes. true };
 
-    ghost sends_within = { λ chain items sent. HasTurnRoom B.held items chain.filters.windows sent };
+    ghost sends_within = { λ chain items sent. HasTurnRoom B.held items (windows_in chain) sent };
 
     /// Has nothing to do, and always succeeds.
     fn reserve(&mut self, _entries: u64, _bytes: u64) -> Result<(), NoMemory>
@@ -153,11 +146,12 @@ impl<B: Parcel, W: Witness> Chain<B> for EventChain<B, W> {
     }
 
     fn limited(&self) -> u64 {
-        self.filters.counting.outlet.sender.limited()
+        self.way.rest.sender.limited()
     }
 
+    #[tactic(auto, using(crate::proofs::SoundLemmas::rows_told))]
     fn memory(&self) -> &Memory {
-        &self.filters.counting.outlet.memory
+        &self.way.rest.memory
     }
 
     fn judge(
@@ -168,19 +162,19 @@ impl<B: Parcel, W: Witness> Chain<B> for EventChain<B, W> {
         out: &mut TurnOut,
     ) {
         let tick = head.tick;
-        let filters = &mut self.filters;
-        filters.begin(out);
-        filters.close_all(&self.aggregating, tick, back, out);
-        filters.take_heads(&heads(&self.internal, head), tick, back, out);
-        filters.take_entries(items, tick, back, out);
+        let way = &mut self.way;
+        way.begin(out);
+        way.close_all(&self.aggregating, tick, back, out);
+        way.take_heads(&heads(&self.internal, head), tick, back, out);
+        way.take_entries(items, tick, back, out);
     }
 
     ghost keeps = { λ chain config turns stands.
-        kept_among B.held config (gated config (moments config (reverse turns))) chain.filters.windows stands.filters.windows };
+        kept_among B.held config (moments config (reverse turns)) (windows_in chain) stands.way.at.windows };
 
     ghost smaller = { λ chain entries bytes fewer less _ _ _. refl };
 
-    ghost bounded = { λ chain items sent fits short room. bounded_turn B.held items chain.filters.windows sent fits short room };
+    ghost bounded = { λ chain items sent fits short room. bounded_turn B.held items (windows_in chain) sent fits short room };
 }
 
 impl<B: Parcel, W: Witness> ParcelChain<B> for EventChain<B, W> {
@@ -189,7 +183,7 @@ impl<B: Parcel, W: Witness> ParcelChain<B> for EventChain<B, W> {
     ghost roomy = { λ chain entries bytes. refl };
 
     ghost within = { λ chain items largest sent came kept room.
-        within_turn B.held items chain.filters.windows largest sent came kept room };
+        within_turn B.held items (windows_in chain) largest sent came kept room };
 }
 
 fn aggregating<B: Parcel>(alloc: Global, windows: &Windows<B>) -> Result<Vec<EventIndex>, NoMemory>

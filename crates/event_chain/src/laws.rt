@@ -1,11 +1,9 @@
 //! What a chain keeps.
 
 ghost use Rattle.std.specs.Prelude.{◌≡◌, List, map, reverse};
-ghost use Rattle.ids_types.specs.Turns.{Turn};
-ghost use Rattle.ids_config.specs.Parts.{Parts};
+ghost use Rattle.event_chain.specs.Names.{Turn, Parts};
 ghost use Rattle.filter_chain.specs.Kept.{open_contexts};
-ghost use Rattle.filter_aggregate.specs.Account.{all_kept};
-ghost use Rattle.event_chain.specs.{Watched, StandsWatched};
+ghost use Rattle.event_chain.specs.{chain_kept, Watched, StandsWatched};
 
 use crate::witness::Witness;
 use ids_types::Parcel;
@@ -14,5 +12,5 @@ use ids_types::Parcel;
 #[tactic(auto, using(crate::specs::Kept::kept_are))]
 pub fn a_chain_keeps_what_its_open_windows_do<B: Parcel, W: Witness>()
     ensures { (config : Parts) (turns : List Turn) (chain : Watched B W) → StandsWatched B.held W.knows config (reverse turns) chain
-        → map B.held (all_kept chain.filters.windows) ≡ open_contexts config turns }
+        → map B.held (chain_kept chain) ≡ open_contexts config turns }
 {}

@@ -3,18 +3,15 @@
 //! Layer 7, the chain. Over `ids_types`, `ids_config`, `chain_spec`, `filter_chain`, the filters, `event_memory`,
 //! `internal_events` and `message_sender`; the main function and the runs make one turn after another with it.
 //! Contracts are those of the trait `Chain`: an `EventChain` stands for a configuration and turns
-//! (`specs/Standing.antt`), and each of its parts for the lists that flow between them (`specs/Flow.antt`).
+//! and each of its parts for the endings so far (`specs/Standing.antt`).
 //! It never holds a history, and takes memory only when it is made.
 #![tactic(auto)]
 
-mod counting;
 mod ending;
 mod event_chain;
-mod filters;
-mod joining;
 mod laws;
-mod outlet;
-mod turns;
+mod rest;
+mod way;
 mod witness;
 
 pub use ending::Ending;

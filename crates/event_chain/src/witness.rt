@@ -1,9 +1,8 @@
 //! Who is told what became of each item.
 
 ghost use Rattle.std.specs.Prelude.{◌≡◌, List, ◌∷◌, Some, None, option_map, ⊤};
-ghost use Rattle.ids_config.specs.Parts.{Parts};
-ghost use Rattle.chain_spec.specs.{ending_at, Moment};
-ghost use Rattle.event_chain.specs.Fates.{bare, ending_of};
+ghost use Rattle.event_chain.specs.Names.{Parts, Moment, ending_at};
+ghost use Rattle.event_chain.specs.Told.{bare, ending_of};
 
 use crate::ending::Ending;
 

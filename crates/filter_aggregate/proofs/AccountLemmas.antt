@@ -1,5 +1,5 @@
 -- Parcels, counted, where one slot changes.
-use Rattle.filter_aggregate.proofs.Names.{◌≡◌, ℕ, suc, zero, ◌<◌, Bool, true, List, [], ◌∷◌, ◌++◌, length, Option, Some, None, option_to_list, option_and_then, append_assoc, arith, slice_set, append-nil, Qualified, Aggregate, Open, Slot, slot_at, held_in, item_due, slot_closed, after_closing, keeps_last, kept_of, spare_of, slot_with, after_arrival}
+use Rattle.filter_aggregate.proofs.Names.{◌≡◌, ℕ, suc, zero, ◌<◌, List, [], ◌∷◌, ◌++◌, length, Option, option_to_list, option_and_then, append_assoc, arith, slice_set, append-nil, Qualified, Slot, slot_at, held_in, item_due, slot_closed, after_closing, keeps_last, spare_of, slot_with, after_arrival}
 use Rattle.std.specs.List.Sorted.{IsPermutation}
 use Rattle.std.proofs.lemmas.List.Sorted.{IsPermutation-refl, IsPermutation-trans, IsPermutation-append_left, IsPermutation-append_right, IsPermutation-append_comm}
 use Rattle.filter_aggregate.specs.Account.{Accounts, kept_in, all_kept}
@@ -28,19 +28,6 @@ module _ {B : Type 0} where
   abbrev pub given_in : Option (Qualified B) → List B
   given_in item = option_to_list (option_and_then (λ (i : Qualified B). i.context) item)
 
-  keeping_one : (last : Bool) (held came : Option B)
-      → Accounts (option_to_list came) (option_to_list held)
-      (option_to_list (spare_of last held came)) (option_to_list (kept_of last held came))
-  keeping_one true (Some h) (Some c) = IsPermutation-append_comm (c ∷ []) (h ∷ [])
-  keeping_one last held came = grind (arith, IsPermutation-refl)
-
-  arriving_of : (tick : ℕ) (item : Qualified B) (setting : Option Aggregate) (window : Option (Open B))
-      → let slot : Slot B = record { setting = setting; window = window } in
-      Accounts (option_to_list item.context) (kept_in slot) (option_to_list (spare_of (keeps_last setting) (held_in slot) item.context))
-      (kept_in (slot_with tick item slot))
-  arriving_of tick item setting None = rw append-nil (IsPermutation-refl _)
-  arriving_of tick item setting (Some w) = keeping_one (keeps_last setting) w.item.context item.context
-
   -- ---- all slots
 
   -- a turn that closes what is due hands out the parcel of the item that it gives
@@ -58,7 +45,7 @@ module _ {B : Type 0} where
       → back ≡ spare_of (keeps_last (slot_at slots item.event.0).setting) (held_in (slot_at slots item.event.0)) item.context
       → Accounts (option_to_list item.context) (all_kept slots) (option_to_list back) (all_kept now)
   account_arriving tick item slots now back there is given =
-      let slot = slot_at slots item.event.0 in
-      let spare = option_to_list (spare_of (keeps_last slot.setting) (held_in slot) item.context) in
-      rw (is, given) (account_set (option_to_list item.context) spare slots item.event.0 (slot_with tick item slot) there
-      (arriving_of tick item slot.setting slot.window))
+      let event = item.event.0 in
+      let slot = slot_at slots event in
+      rw (is, given) (account_set (option_to_list item.context) _ slots event (slot_with tick item slot) there
+      (grind (arith, IsPermutation-refl, IsPermutation-append_comm, append-nil)))

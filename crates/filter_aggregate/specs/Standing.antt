@@ -1,27 +1,36 @@
--- What slots stand for: the window of each event that is open after a list of calls, the newest call first.
+-- What slots stand for: the window of each event that is open after the turns that closed it, and the items that came to
+-- the windows. Lists have the newest first.
 -- Public standard: AUTOSAR SWS Intrusion Detection System Manager, aggregation filter.
-use Rattle.std.specs.Prelude.{◌≡◌, ℕ, ◌<◌, List, length, Bool, Option, Some, None, option_map}
+use Rattle.std.specs.Prelude.{◌≡◌, ℕ, ◌<◌, List, length, filter, Bool, Option, Some, None, option_map}
 use Rattle.ids_config.specs.Parts.{Parts, event_at}
 use Rattle.ids_config.specs.declared.parts.Aggregate.{Aggregate}
-use Rattle.chain_spec.specs.{joined, Call, Arrival, open_window, Window}
+use Rattle.chain_spec.specs.Items.{Item, is_of, told_of}
+use Rattle.chain_spec.specs.Moments.{Moment}
+use Rattle.chain_spec.specs.OpenWindows.{closing_ticks, joined, open_window}
+use Rattle.chain_spec.specs.Windows.{Window}
 use Rattle.filter_aggregate.specs.declared.open.Open.{Open}
 use Rattle.filter_aggregate.specs.declared.slot.Slot.{Slot}
 use Rattle.filter_aggregate.specs.Slots.{slot_at}
 
--- a window as it is kept: its opener's tick, and the one item that it gives
-abbrev pub kept_window : {C : Type 0} → Bool → Window (Arrival C) → Open C
-kept_window last w = record { since = w.opener.tick; item = joined last w }
+-- a window as it is kept: its opener's tick, and what it gives beside the tick at which it closes
+abbrev pub kept_window : Bool → Window Item → Open (List ℕ)
+kept_window last w = record { since = w.opener.tick; item = told_of (joined last w.opener.tick w) }
 
--- the window of an event that is open after these calls, where the event is aggregated
-abbrev pub window_after : {C : Type 0} → Option Aggregate → ℕ → List (Call C) → Option (Open C)
-window_after None event calls = None
-window_after (Some setting) event calls = option_map (kept_window setting.last) (open_window setting.interval event calls)
+-- the window of an event's items that is open after turns at these ticks, if the event is aggregated
+abbrev pub window_after : Option Aggregate → List ℕ → List Item → Option (Open (List ℕ))
+window_after None ticks items = None
+window_after (Some setting) ticks items = option_map (kept_window setting.last) (open_window setting.interval ticks items)
 
--- the slot of an event after these calls
-abbrev pub slot_after : {C : Type 0} → Option Aggregate → ℕ → List (Call C) → Slot C
-slot_after setting event calls = record { setting = setting; window = window_after setting event calls }
+-- the slot of an event after them
+abbrev pub slot_after : Option Aggregate → List ℕ → List Item → Slot (List ℕ)
+slot_after setting ticks items = record { setting = setting; window = window_after setting ticks items }
 
--- the slots after these calls: one for each configured event, aggregated as it is configured
-pub record Stands (config : Parts) (calls : List (Call (List ℕ))) (slots : List (Slot (List ℕ))) : Type 0 where
+-- the slot of an event after these moments, and these items that came to the windows
+abbrev pub slot_of : Parts → List Moment → List Item → ℕ → Slot (List ℕ)
+slot_of config moments items event =
+    slot_after (event_at config event).aggregate (closing_ticks event moments) (filter (is_of event) items)
+
+-- the slots after them: one for each configured event, aggregated as it is configured
+pub record Stands (config : Parts) (moments : List Moment) (items : List Item) (slots : List (Slot (List ℕ))) : Type 0 where
   pub events : length slots ≡ length config.events
-  pub each : (event : ℕ) → event < length slots → slot_at slots event ≡ slot_after (event_at config event).aggregate event calls
+  pub each : (event : ℕ) → event < length slots → slot_at slots event ≡ slot_of config moments items event

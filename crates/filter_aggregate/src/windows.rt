@@ -1,10 +1,12 @@
 //! The windows of all events.
 
-ghost use Rattle.std.specs.Prelude.{◌≡◌, ◌≢◌, ◌<◌, ℕ, List, [], ◌∷◌, length, map, option_map, option_and_then, option_to_list, is_some, IsSome, IfOk};
+ghost use Rattle.std.specs.Prelude.{◌≡◌, ◌≢◌, ◌<◌, ◌≤◌, ℕ, List, [], ◌∷◌, length, map, filter, option_map, option_and_then, option_to_list, is_some, IsSome, IfOk};
 ghost use Rattle.std.specs.Bool.{IsFalse};
+ghost use Rattle.std.specs.List.{All};
 ghost use Rattle.std.specs.Option.{option_copied};
 ghost use Rattle.ids_config.specs.Parts.{Parts, event_at};
-ghost use Rattle.chain_spec.specs.{Call, closes_due, arrives, call_tick, closing_item, told_by, EndBy};
+ghost use Rattle.chain_spec.specs.{Item, is_of, item_at, told_by, Moment, closes, EndBy};
+ghost use Rattle.chain_spec.specs.OpenWindows.{closing_item, closing_ticks};
 ghost use Rattle.filter_aggregate.specs.{Accounts, all_kept, fresh_slot, slot_at, held_in, is_due, item_due, after_closing, keeps_last, spare_of, after_arrival, slots_by, Stands};
 
 use crate::slot::Slot;
@@ -37,7 +39,7 @@ impl<B: Parcel> Windows<B> {
     /// Steps: the events, at most 256. Memory: made once. By: read off; no other call of it answers NoMemory.
     pub fn make(alloc: Global, config: &Config) -> Result<Windows<B>, NoMemory>
         ensures slots { IfOk result (λ w. w ≡ map (λ event. fresh_slot event.aggregate) config.now.events) }
-        ensures stands_over { IfOk result (λ w. Stands config.now [] (slots_by B.held w)) }
+        ensures stands_over { IfOk result (λ w. Stands config.now [] [] (slots_by B.held w)) }
     {
         let slots = fresh_slots(alloc, &config.parts().events)?;
         Ok(Windows { slots })
@@ -54,8 +56,8 @@ impl<B: Parcel> Windows<B> {
     pub fn aggregates(&self, event: EventIndex) -> bool
         requires { event.0 < length self.now }
         ensures slot { result ≡ is_some (slot_at self.now event.0).setting }
-        ensures configured { (config : Parts) (calls : List (Call (List ℕ))) → Stands config calls (slots_by B.held self.now)
-            → result ≡ is_some (event_at config event.0).aggregate }
+        ensures configured { (config : Parts) (moments : List Moment) (items : List Item)
+            → Stands config moments items (slots_by B.held self.now) → result ≡ is_some (event_at config event.0).aggregate }
     {
         self.slots[usize::from(event.0)].setting.is_some()
     }
@@ -74,8 +76,10 @@ impl<B: Parcel> Windows<B> {
     /// Whether the event's window is due at the tick: then `close_due` gives its item.
     pub fn is_due(&self, event: EventIndex, tick: u64) -> bool
         ensures slot { result ≡ is_due tick (slot_at self.now event.0) }
-        ensures gives_over { (config : Parts) (calls : List (Call (List ℕ))) → Stands config calls (slots_by B.held self.now)
-            → result ≡ is_some (closing_item (event_at config event.0).aggregate event.0 tick calls) }
+        ensures gives_over { (config : Parts) (moments : List Moment) (items : List Item)
+            → Stands config moments items (slots_by B.held self.now)
+            → result ≡ is_some (closing_item (event_at config event.0).aggregate tick (closing_ticks event.0 moments)
+            (filter (is_of event.0) items)) }
     {
         self.slots
             .get(usize::from(event.0))
@@ -94,11 +98,14 @@ impl<B: Parcel> Windows<B> {
         ensures settled { IsFalse (is_due tick (slot_at self.new event.0)) }
         ensures others { (k : ℕ) → k ≢ event.0 → slot_at self.new k ≡ slot_at self.old k }
 
-        // What that is over the parcels' bytes, after any calls.
-        ensures stands_over { (config : Parts) (calls : List (Call (List ℕ))) → Stands config calls (slots_by B.held self.old)
-            → Stands config (closes_due tick event.0 ∷ calls) (slots_by B.held self.new) }
-        ensures gives_over { (config : Parts) (calls : List (Call (List ℕ))) → Stands config calls (slots_by B.held self.old)
-            → option_map (told_by B.held) result ≡ closing_item (event_at config event.0).aggregate event.0 tick calls }
+        // What that is over the parcels' bytes, after any moments and items.
+        ensures stands_over { (config : Parts) (moments : List Moment) (items : List Item)
+            → Stands config moments items (slots_by B.held self.old)
+            → Stands config (closes tick event.0 ∷ moments) items (slots_by B.held self.new) }
+        ensures gives_over { (config : Parts) (moments : List Moment) (items : List Item)
+            → Stands config moments items (slots_by B.held self.old)
+            → option_map (λ given. item_at tick (told_by B.held given)) result
+            ≡ closing_item (event_at config event.0).aggregate tick (closing_ticks event.0 moments) (filter (is_of event.0) items) }
     {
         self.close_slot(event, tick)
     }
@@ -118,9 +125,12 @@ impl<B: Parcel> Windows<B> {
         ensures settled { IsFalse (is_due tick (slot_at self.new item.event.0)) }
         ensures others { (k : ℕ) → k ≢ item.event.0 → slot_at self.new k ≡ slot_at self.old k }
 
-        // What that is over the parcels' bytes, after any calls whose ticks do not fall.
-        ensures stands_over { (config : Parts) (calls : List (Call (List ℕ))) → Stands config calls (slots_by B.held self.old)
-            → EndBy call_tick tick calls → Stands config (arrives tick (told_by B.held item) ∷ calls) (slots_by B.held self.new) }
+        // What that is over the parcels' bytes, if the items' ticks do not fall, and no turn closed the event's window at a
+        // later one.
+        ensures stands_over { (config : Parts) (moments : List Moment) (items : List Item)
+            → Stands config moments items (slots_by B.held self.old)
+            → EndBy (λ item. item.tick) tick items → All (λ closed. closed ≤ tick) (closing_ticks item.event.0 moments)
+            → Stands config moments (item_at tick (told_by B.held item) ∷ items) (slots_by B.held self.new) }
     {
         // Names a field, so that the proof knows the invariant.
         let _slots = &self.slots;

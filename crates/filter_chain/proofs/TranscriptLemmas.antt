@@ -4,7 +4,7 @@ use Rattle.std.proofs.lemmas.List.{reverse-append}
 use Rattle.std.proofs.lemmas.Grind.{reverse_onto}
 use Rattle.ids_types.specs.Output.{Output}
 use Rattle.ids_config.specs.Parts.{Parts}
-use Rattle.chain_spec.specs.{messages, ends, qualified_of, sent, Item, spelled}
+use Rattle.chain_spec.specs.{messages, ends, moments, sent, Item, spelled}
 use Rattle.filter_chain.specs.declared.transcript.Transcript.{Transcript}
 
 -- with one turn more the newest is this one
@@ -37,7 +37,7 @@ transcript_more {config} {turns} {turn} {old} {new} {out} was sends adds =
     let bytes : new.sent.items ≡ messages_of config (turns ++ turn ∷ []) =
     adds.bytes ∙ ap (λ bytes. bytes ++ out.sent) was.sent ∙ sym sends.bytes in
     let few : count_of config (turns ++ turn ∷ []) ≤ length (messages_of config (turns ++ turn ∷ [])) =
-    spelled_few config (sent config (qualified_of config (reverse (turns ++ turn ∷ [])))) in
+    spelled_few config (sent config (moments config (reverse (turns ++ turn ∷ [])))) in
     record {
       sent = bytes;
       ends = adds.end ∙ rw (was.ends, bytes) (sym (ends_more config turns turn));

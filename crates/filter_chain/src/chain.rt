@@ -56,7 +56,7 @@ pub trait Chain<B: Parcel> {
     /// Judges a turn: its head and its items, whose parcels it keeps or hands back. The output's messages are those
     /// of the turn. Takes no memory.
     /// Steps: the events that are aggregated, at most 256, at most 3 internal ones, and the entries, at most 1,024. For
-    /// each at most one call of each filter, one `Memory::store` and one `Sender::qualify`. Waits: as its chain;
+    /// each at most one call of each filter, one `Memory::store` and one `Sender::send`. Waits: as its chain;
     /// `EventChain`: no. By: no answer; conditions `back`, `out` (`sends_within`), `items` (`FitsTurn`); read off.
     fn judge(
         &mut self,

@@ -1,9 +1,13 @@
--- For which moments a gate stands, what a verdict makes of an item, and where its way ends by it.
-use Rattle.std.specs.Prelude.{◌≡◌, ◌<◌, ℕ, ◌%◌, Bool, List, length, Option, Some, None, is_some, if◌then◌else◌}
+-- For which moments a gate stands, and the ending of an item by a verdict.
+use Rattle.std.specs.Prelude.{◌≡◌, ◌<◌, ℕ, ◌%◌, Bool, List, length, None, if◌then◌else◌, ⊤}
+use Rattle.ids_types.specs.declared.mode.Mode.{Mode}
 use Rattle.ids_config.specs.Parts.{Parts, event_at}
-use Rattle.chain_spec.specs.{aggregated_fate, mode_at, state_at, arrivals, Item, Moment}
+use Rattle.chain_spec.specs.{mode_at, state_at, item_in, Item, Moment}
+use Rattle.chain_spec.specs.Fates.{place_of}
+use Rattle.chain_spec.specs.Lists.{arrivals}
+use Rattle.chain_spec.specs.Way.{Ending, endings, fate_from}
 use Rattle.chain_spec.specs.declared.fate.Fate.{Fate}
-use Rattle.chain_spec.specs.declared.fate.Fate.TheVariants.{InWindow}
+use Rattle.chain_spec.specs.declared.fate.Fate.TheVariants.{AtMode, InWindow, AtSend}
 use Rattle.filter_gate.specs.declared.verdict.Verdict.{Verdict}
 use Rattle.filter_gate.specs.declared.verdict.Verdict.TheVariants.{Held, Bypass, Pass}
 use Rattle.filter_gate.specs.Gate.{Row, Gate, row_at, row_with}
@@ -30,25 +34,21 @@ with_context context item = record {
   context = if context then item.context else None;
 }
 
--- the item that a verdict lets through to the next filter
-abbrev pub let_through : Verdict → Item → Option Item
-let_through (Held fate) item = None
-let_through (Bypass context) item = None
-let_through (Pass context) item = Some (with_context context item)
+-- what is held is held before the windows
+abbrev pub IsHeldEarly : Verdict → Type 0
+IsHeldEarly (Held fate) = place_of fate < place_of InWindow
+IsHeldEarly _ = ⊤
 
--- the item that a verdict lets by all filters
-abbrev pub let_by : Verdict → Item → Option Item
-let_by (Held fate) item = None
-let_by (Bypass context) item = Some (with_context context item)
-let_by (Pass context) item = None
+-- the ending of an item by a verdict, under its event's mode and with the fates from a step on: what is held ends there,
+-- what bypasses the filters goes on to the sending, and what passes to the windows
+abbrev pub ending_under : Mode → (Fate → Item → Fate) → Verdict → Item → Ending
+ending_under mode onward (Held fate) item = record { item = item_in mode item; first = AtMode; fate = fate }
+ending_under mode onward (Bypass context) item =
+    let kept = with_context context item in record { item = kept; first = AtSend; fate = onward AtSend kept }
+ending_under mode onward (Pass context) item =
+    let kept = with_context context item in record { item = kept; first = AtMode; fate = onward InWindow kept }
 
--- the fate that a verdict gives an item, by those of what it lets by and of what it lets through
-abbrev pub fate_by : Verdict → (Item → Fate) → (Item → Fate) → Item → Fate
-fate_by (Held fate) bypassing sampled item = fate
-fate_by (Bypass context) bypassing sampled item = bypassing (with_context context item)
-fate_by (Pass context) bypassing sampled item = sampled (with_context context item)
-
--- the fate of an item that is sampled after these moments: it goes into its event's window, or on where there is none
-abbrev pub sampled_fate : Parts → List Moment → Item → Fate
-sampled_fate config before item =
-    if is_some (event_at config item.event).aggregate then InWindow else aggregated_fate config before item
+-- the ending of an item by a verdict after these moments
+abbrev pub ending_by : Parts → List Moment → Verdict → Item → Ending
+ending_by config before verdict item =
+    ending_under (mode_at config item.event before) (fate_from config before (endings config before)) verdict item

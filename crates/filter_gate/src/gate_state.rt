@@ -1,11 +1,12 @@
 //! The gate of all events, and the block state that they share.
 
-ghost use Rattle.std.specs.Prelude.{◌≡◌, ◌<◌, ℕ, List, [], ◌∷◌, length, map, IfOk};
+ghost use Rattle.std.specs.Prelude.{◌≡◌, ◌<◌, ℕ, List, [], ◌∷◌, length, map, Some, IfOk};
 ghost use Rattle.std.specs.List.{All};
 ghost use Rattle.ids_config.specs.Parts.{Parts};
-ghost use Rattle.chain_spec.specs.{coming, qualified_fate, qualified, sampled_at, bypassing_at, mode_at, state_at, Item, Moment, comes, state_is, mode_is};
+ghost use Rattle.chain_spec.specs.{mode_at, state_at, Item, Moment, comes, state_is, mode_is};
+ghost use Rattle.chain_spec.specs.Way.{ending_at};
 ghost use Rattle.filter_gate.specs.Gate.{fresh_row, row_at, verdict_on, gate_asked, gate_with_mode};
-ghost use Rattle.filter_gate.specs.Stands.{Stands, let_through, let_by, fate_by, sampled_fate};
+ghost use Rattle.filter_gate.specs.Stands.{Stands, ending_by, IsHeldEarly};
 
 use crate::row::Row;
 use crate::verdict::Verdict;
@@ -50,18 +51,11 @@ impl GateState {
     #[inline(always)]
     pub fn gate(&mut self, event: EventIndex) -> Verdict
         requires { event.0 < length self.old.rows }
-        // What it lets through is what is sampled of the item, and what it lets by is what bypasses.
-        ensures sampled { (config : Parts) (before : List Moment) (item : Item)
+        // If the item is held, its way ends there. Else it goes on to the windows, or to the sending.
+        ensures ending { (config : Parts) (before : List Moment) (item : Item)
             → item.event ≡ event.0 → Stands config before self.old
-            → let_through result item ≡ sampled_at config event.0 before (comes item) }
-        ensures bypassing { (config : Parts) (before : List Moment) (item : Item)
-            → item.event ≡ event.0 → Stands config before self.old
-            → let_by result item ≡ bypassing_at config before (comes item) }
-        // What it holds ends here, with the fate that it answers.
-        ensures fate { (config : Parts) (before : List Moment) (item : Item)
-            → item.event ≡ event.0 → Stands config before self.old
-            → (coming config before item).fate ≡ fate_by result
-            (qualified_fate config (qualified config before)) (sampled_fate config before) item }
+            → ending_at config before (comes item) ≡ Some (ending_by config before result item) }
+        ensures held { IsHeldEarly result }
         ensures stands { (config : Parts) (before : List Moment) (item : Item)
             → item.event ≡ event.0 → Stands config before self.old
             → Stands config (comes item ∷ before) self.new }

@@ -60,8 +60,8 @@ pub record IsAt (config : Parts) (before : List Plan) (calls : List Call) (r : R
   pub counts : AreCounts config (reverse calls ++ calls_of before) r.counts
   pub entries : map plain_entry r.desk.items.items ≡ entries_of config (calls_of before) calls
   pub fits : FitsTurn held (length config.events) r.desk.items.items
-  pub kept : All (IsShort held) (all_kept r.chain.filters.windows)
-  pub events : length r.chain.filters.windows ≡ length config.events
+  pub kept : All (IsShort held) (all_kept r.chain.way.windows)
+  pub events : length r.chain.way.windows ≡ length config.events
   pub room : HasDeskRoom (length config.events) r.desk
 
 -- it is after some turns

@@ -35,11 +35,11 @@ ChainManager = Over (Chained Buffer) TurnText
 
 -- how many events the filter chain knows
 abbrev pub chain_events : Chained Buffer → ℕ
-chain_events chain = length chain.filters.windows
+chain_events chain = length chain.way.windows
 
 -- the buffers that its open windows keep
 abbrev pub chain_kept : Chained Buffer → List Buffer
-chain_kept chain = all_kept chain.filters.windows
+chain_kept chain = all_kept chain.way.windows
 
 -- the manager stands for these turns of the configuration, the first of them first
 abbrev pub StandsFor : Parts → List Turn → Manager → Type 0

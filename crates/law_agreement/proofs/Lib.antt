@@ -5,6 +5,5 @@ pub mod FoundLemmas
 pub mod JournalLemmas
 pub mod LiveLemmas
 pub mod Names
-pub mod TotalLemmas
 pub mod WindowLemmas
 mod WorkedWeights

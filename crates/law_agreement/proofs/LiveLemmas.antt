@@ -1,11 +1,12 @@
 -- What a manager wrote turn by turn is a journal, and so is each beginning of it by turns.
-use Rattle.cmd_steps.proofs.Names.{AllByRecursion, Files, List, Ok, Parts, Turn, [], append-nil, append_assoc, arith, bytes_eq-Decides, check_judged, codes, config_in, does, entries_of, file, file_of, flat_map-append, folded_in, journal_text, judge, map, messages_of, only_said, over, over_then, reading_of, recorded_in, refl, reverse, suc, sym, take, told, told_in, zero, ℕ, ◌>>=◌, ◌++◌, ◌∙◌, ◌∷◌, ◌≡◌, ◌≤◌}
+use Rattle.cmd_steps.proofs.Names.{AllByRecursion, Files, List, Ok, Parts, Turn, [], append-nil, append_assoc, arith, bytes_eq-Decides, check_judged, codes, config_in, does, entries_of, file, file_of, flat_map-append, folded_in, journal_text, judge, map, messages_of, only_said, over, over_then, reading_of, recorded_in, refl, reverse, suc, sym, take, told, told_in, zero, ℕ, ◌>>=◌, ◌++◌, ◌∙◌, ◌∷◌, ◌≡◌}
 use Rattle.std.proofs.lemmas.Grind.{reverse_onto}
 use Rattle.std.proofs.lemmas.List.{map-append, reverse-append}
 use Rattle.chain_spec.specs.Chain.{IsCausal}
 use Rattle.chain_spec.specs.ByEvent.{tick_of}
 use Rattle.chain_spec.specs.Quiet.{HaveIntervals, IsQuiet, TellTheSame}
 use Rattle.chain_spec.specs.Windows.{EndBy}
+use Rattle.chain_spec.proofs.CoverLemmas.{end_later}
 use Rattle.chain_spec.proofs.QuietLemmas.{quiet_causal, quiet_same}
 use Rattle.history_spec.specs.{KeepUpFrom}
 use Rattle.cmd_steps.specs.Names.{Shelved}
@@ -63,26 +64,18 @@ all_without : {A : Type 0} (P : A → Type 0) (x : A) (front back : List A) → 
 all_without P x [] back all = all.1
 all_without P x (y ∷ front) back all = (all.0, all_without P x front back all.1)
 
--- ticks that keep up from one keep up from a lower one
-keep_up : (least low : ℕ) (ticks : List ℕ) → least ≤ low → KeepUpFrom low ticks → KeepUpFrom least ticks
-keep_up least low [] le keeps = tt
-keep_up least low (tick ∷ ticks) le keeps = (omega (arith, le, keeps.0), keeps.1)
-
--- also with one of them left out
+-- ticks that keep up from one do so with one of them left out
 keep_up_without : (least tick : ℕ) (front back : List ℕ) → KeepUpFrom least (front ++ tick ∷ back) → KeepUpFrom least (front ++ back)
-keep_up_without least tick [] back keeps = keep_up least tick back keeps.0 keeps.1
+keep_up_without least tick [] [] keeps = tt
+keep_up_without least tick [] (next ∷ back) keeps = (omega (arith, keeps.0, keeps.1.0), keeps.1.1)
 keep_up_without least tick (first ∷ front) back keeps = (keeps.0, keep_up_without first tick front back keeps.1)
 
 -- ticks that keep up from that of the last turn before are, with the newest first, none later than the one before it
-ends_by_later : (early late : ℕ) (turns : List Turn) → early ≤ late → EndBy tick_of early turns → EndBy tick_of late turns
-ends_by_later early late [] le by = tt
-ends_by_later early late (turn ∷ turns) le by = (omega (arith, le, by.0), by.1)
-
 end_by : (least : ℕ) (turns before : List Turn) → EndBy tick_of least before → KeepUpFrom least (ticks_of turns)
     → (last : ℕ) × EndBy tick_of last (reverse_aux turns before)
 end_by least [] before by keeps = (least, by)
 end_by least (turn ∷ turns) before by keeps =
-    end_by turn.head.tick turns (turn ∷ before) (omega arith, ends_by_later least turn.head.tick before keeps.0 by) keeps.1
+    end_by turn.head.tick turns (turn ∷ before) (omega arith, end_later tick_of least turn.head.tick before keeps.0 by) keeps.1
 
 module _ (config : Parts) (front back : List Turn) (turn : Turn) (intervals : HaveIntervals config)
     (all : MakeAJournal config (front ++ turn ∷ back)) (quiet : IsQuiet config (reverse front) turn) where

@@ -1,9 +1,9 @@
 //! What messages weigh: each function has a law as its contract, and no body.
 
 ghost use Rattle.std.specs.Prelude.{◌*◌, ◌≤◌};
-ghost use Rattle.cmd_steps.specs.Words.{IsJournal, List, Parts, Told, journal_text, length, messages, reverse, sent, sum_by, ℕ};
+ghost use Rattle.cmd_steps.specs.Words.{IsJournal, List, Parts, Told, journal_text, length, messages, reverse, sum_by, ℕ};
 ghost use Rattle.ids_frame.specs.Spelling.{spelling};
-ghost use Rattle.chain_spec.specs.{qualified, Item, message_of, spelled, Moment};
+ghost use Rattle.chain_spec.specs.{sent, Item, message_of, spelled, Moment};
 ghost use Rattle.law_agreement.specs.Weights.{weight, moment_weight};
 
 /// The message of an item has at most as many bytes as the item weighs.
@@ -17,7 +17,7 @@ pub fn what_a_message_weighs()
 #[tactic(auto, using(crate::proofs::ChainLemmas::sent_weighs))]
 pub fn the_chain_adds_no_weight()
     ensures { (config : Parts) (moments : List Moment) →
-        length (spelled config (sent config (qualified config moments))) ≤ sum_by moment_weight moments }
+        length (spelled config (sent config moments)) ≤ sum_by moment_weight moments }
 {}
 
 /// The messages of turns have at most four times as many bytes as the journal that tells the turns, whatever the

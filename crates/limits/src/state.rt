@@ -3,6 +3,8 @@
 ghost use Rattle.std.specs.Prelude.{◌≡◌, ◌≤◌, ℕ, List, [], ◌∷◌, IfSome};
 ghost use Rattle.ids_config.specs.Parts.{Parts};
 ghost use Rattle.chain_spec.specs.{Candidate, EndBy};
+ghost use Rattle.chain_spec.specs.Fates.{place_of};
+ghost use Rattle.chain_spec.specs.declared.fate.Fate.TheVariants.{AtRate};
 ghost use Rattle.limits.specs.Limiting.{Stands, answer_to};
 ghost use Rattle.limits.specs.Meters.{HasInterval, answer_of, after_message, is_allowed, after_any};
 
@@ -53,6 +55,7 @@ impl LimitState {
         ensures stands { (config : Parts) (before : List Candidate) → Stands config before self.old
             → EndBy (λ one. one.tick) tick before
             → Stands config (record { tick = tick; bytes = bytes } ∷ before) self.new }
+        ensures late { place_of AtRate ≤ place_of result }
     {
         self.ask(tick, bytes)
     }

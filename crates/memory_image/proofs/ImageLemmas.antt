@@ -1,5 +1,5 @@
 -- The records of an image: how long they are, that they are read as they were written, and how they are restored.
-pub use Rattle.std.proofs.Common.{◌≡◌, ℕ, suc, ◌*◌, ◌^◌, ◌<◌, ◌≤◌, Bool, true, List, [], ◌∷◌, ◌++◌, length, reverse, take, get_or, Option, Some, None, IfSome, refl, sym, ap, subst, ◌∙◌, arith, rules, append_assoc, map, eq-eqb, vec_capacity, ◌≢◌, filter, flat_map, if◌then◌else◌, option_map}
+pub use Rattle.std.proofs.Common.{◌≡◌, ℕ, suc, ◌*◌, ◌^◌, ◌<◌, ◌≤◌, Bool, true, List, [], ◌∷◌, ◌++◌, length, reverse, take, get_or, option_to_list, Option, Some, None, IfSome, refl, sym, ap, subst, ◌∙◌, arith, rules, append_assoc, map, eq-eqb, vec_capacity, ◌≢◌, filter, flat_map, if◌then◌else◌, option_map, inl, inr}
 pub use Rattle.std.proofs.lemmas.List.{append-nil, length-append, length-reverse, length-take, take_all, get_or_default, get_or-reverse, get_or_append_left, get_or_at, length-map, nil_from_length, reverse-append, map-append}
 pub use Rattle.std.specs.List.{All, AllPairs, position, position_or_len, AllByRecursion, range_with_len}
 pub use Rattle.ids_frame.specs.Bytes.{AreBytes}
@@ -12,11 +12,11 @@ pub use Rattle.memory_image.specs.Reading.{plain_fields, HasPlace}
 pub use Rattle.std.proofs.lemmas.Bool.Decides.{nat_tests}
 pub use Rattle.std.proofs.lemmas.List.Concat.{flat_map-append, length-flat_map}
 pub use Rattle.std.proofs.lemmas.List.Edits.{length-remove}
-pub use Rattle.std.proofs.lemmas.List.Elements.{All-head, All-push, All-tail, All-map, recursion_from_All, All-from_recursion, filter_passes}
+pub use Rattle.std.proofs.lemmas.List.Elements.{All-head, All-push, All-tail, All-from_recursion, filter_passes}
 pub use Rattle.std.proofs.lemmas.List.Sorted.{All-permutation, IsPermutation-reverse, IsPermutation-sym}
 pub use Rattle.std.proofs.lemmas.List.Quantifiers.{all_pairs_push, position-Some}
 pub use Rattle.std.proofs.lemmas.List.Sums.{fails_before_first, sum_by-le, sum_by-cons}
-pub use Rattle.chain_spec.specs.{Stored, event_of, Item, item_at, told_of, Moment, closes, comes, Stage, added, behind, with_all, head_for, head_moment, act_moment, turn_moments, moments, qualified}
+pub use Rattle.chain_spec.specs.{Stored, event_of}
 pub use Rattle.event_memory.specs.Held.{Held, Stands, after_storing, begun, is_of, stored, no_row}
 pub use Rattle.event_memory.proofs.StandsLemmas.{stands_after}
 pub use Rattle.event_memory.specs.Views.{plain_row}

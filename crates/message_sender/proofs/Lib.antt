@@ -1,3 +1,1 @@
 pub mod MessageLemmas
-pub mod SendingLemmas
-pub mod Names

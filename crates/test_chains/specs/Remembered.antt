@@ -26,8 +26,8 @@ remembered c = record { config = c.config.now; history = c.history; limited = c.
 -- the chain of this configuration took no turn and keeps no parcel, and the desk has room for each of its turns
 pub record IsFresh (config : Parts) (fresh : Fresh) : Type 0 where
   pub stands : ChainStands (λ p. p.0.now) config [] fresh.chain
-  pub events : length fresh.chain.filters.windows ≡ length config.events
-  pub kept : all_kept fresh.chain.filters.windows ≡ []
+  pub events : length fresh.chain.way.windows ≡ length config.events
+  pub kept : all_kept fresh.chain.way.windows ≡ []
   pub ready : IsReady (length config.events) fresh.desk
 
 -- each turn of the history can be taken again, and there is a fresh chain for each turn that there is room for

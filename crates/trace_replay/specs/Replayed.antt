@@ -66,10 +66,10 @@ chain_stands chain config turns = ChainStands (λ (buf : Buffer). buf.bytes) con
 
 -- for how many events it counts, and the buffers that it keeps
 abbrev pub chain_events : Chained Buffer → ℕ
-chain_events chain = length chain.filters.windows
+chain_events chain = length chain.way.windows
 
 abbrev pub chain_kept : Chained Buffer → List Buffer
-chain_kept chain = all_kept chain.filters.windows
+chain_kept chain = all_kept chain.way.windows
 
 -- a manager over it that replayed these rounds, and what that gave
 abbrev pub IsReplay : Parts → List Round → RunManager → Gives → Type 0

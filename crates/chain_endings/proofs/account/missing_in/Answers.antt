@@ -1,16 +1,11 @@
-use Rattle.chain_endings.proofs.Lemmas.{append-nil, ◌++◌, length, ap, arith, common_steps}
+use Rattle.chain_endings.proofs.Lemmas.{arith, plain_entry, count_few, count_next}
 use Rattle.chain_endings.proofs.account.missing_in.Goals as goal
 
-pub count_all-requires : goal.count_all-requires
-count_all-requires c =
-    let before = c.loop-entries.invariant in
-    (before.0, grind (arith, common_steps, ap length before.1.whole, c.total_entries-entries.ensures), before.1.counts)
+pub count_missing-requires : goal.count_missing-requires
+count_missing-requires c k less =
+    let few = count_few (plain_entry c.in-Some-pop_front.entry) (rw c.in-Some-pop_front.ensures.some at c.loop-entry.invariant) k less in
+    omega (arith, few, c.total_entries-entries.ensures)
 
-pub loop-entries-preserved : goal.loop-entries-preserved
-loop-entries-preserved c =
-    let before = c.loop-entries.invariant in
-    (before.0 ++ c.in-Some.entries, grind (arith, common_steps, before.1, c.count_all.ensures))
-
-pub returns : goal.returns
-returns c =
-    let end = c.loop-entries.invariant in grind (arith, common_steps, end.1, append-nil end.0)
+pub loop-entry-preserved : goal.loop-entry-preserved
+loop-entry-preserved c = count_next (plain_entry c.in-Some-pop_front.entry) c.count_missing.ensures.len c.count_missing.ensures.each
+    (rw c.in-Some-pop_front.ensures.some at c.loop-entry.invariant)

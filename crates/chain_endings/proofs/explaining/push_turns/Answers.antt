@@ -1,4 +1,4 @@
-use Rattle.chain_endings.proofs.Lemmas.{RiseFrom, turn_with, Parts, Turn, turn_at, append-nil, ◌≡◌, ◌<◌, ◌≤◌, [], ◌∷◌, ◌++◌, drop, length, map, reverse, ap, ◌∙◌, arith, common_steps, bare, ending_of, text_of, turn_lines, turns_lines, turn_endings, last_tick, moments, heard_since, text_more}
+use Rattle.chain_endings.proofs.Lemmas.{RiseFrom, turn_with, Turn, turn_at, append_assoc, text_of-append, ◌≡◌, ◌<◌, ◌≤◌, [], ◌∷◌, ◌++◌, drop, length, map, reverse, ap, arith, common_steps, bare, ending_of, text_of, turns_lines, turn_endings, last_tick, moments, heard_since}
 use Rattle.std.proofs.Math.Seq.{get_or-append_seam}
 use Rattle.filter_chain.proofs.TranscriptLemmas.{last_of, newest_first}
 use Rattle.chain_endings.proofs.explaining.push_turns.Goals.{In_ok-heard}
@@ -67,15 +67,9 @@ loop-head-preserved c =
     let fit = rw left at before.1.turns_fit in
     let ms = moments config past in
     let same = c.parts-parts.ensures.value in
-    let lines = c.in_ok-push_turn.ensures ms (rw (c.split_at.ensures.back, same, known.2) known.5)
-    ∙ ap (λ (p : Parts). c.loop-head.out.items ++ text_of (turn_lines p ms (turn_at c.args.history.now.turns c.loop-head.turn))) same
-    ∙ ap (λ t. c.loop-head.out.items ++ text_of (turn_lines config ms t)) known.2 in
-    let text = text_more c.loop-head.out.items (turn_lines config ms turn) (turns_lines config (turn ∷ past) rest) (rw left at before.1.text) lines in
+    let lines = c.in_ok-push_turn.ensures ms (rw (c.split_at.ensures.back, same, known.2) known.5) in
+    let text : c.push_turn.new.out.items ++ text_of (turns_lines config (turn ∷ past) rest)
+    ≡ c.args.out.now.items ++ text_of (turns_lines config [] c.args.history.now.turns) =
+    grind (arith, append_assoc, text_of-append, rw left at before.1.text, lines, same, known.2) in
     let stands = c.take.ensures.stands config before.0 before.1.stands known.3.0 in
     (before.0 ++ turn ∷ [], grind (arith, common_steps, before.1, left, known.3, fit, text, stands, newest_first before.0 turn, last_of before.0 turn, c.take.ensures))
-
-pub returns-clause-text : goal.returns-clause-text
-returns-clause-text c = let end = c.loop-head.invariant in grind (arith, common_steps, end.1.text)
-
-pub returns-clause-stands : goal.returns-clause-stands
-returns-clause-stands c = let end = c.loop-head.invariant in grind (arith, common_steps, end.1.whole, end.1.stands, append-nil end.0)

@@ -12,8 +12,8 @@ invariant-loop-head l =
       text : l.out.items ++ text_of (turns_lines l.config (reverse taken) l.turns)
           ≡ l.initial.out.items ++ text_of (turns_lines l.config [] l.history.turns);
       count : l.turn ≡ length taken;
-      all_events : length l.chain.filters.windows ≡ many;
-      kept : All (IsShort (λ p. p.0.now)) (all_kept l.chain.filters.windows);
+      all_events : length l.chain.way.windows ≡ many;
+      kept : All (IsShort (λ p. p.0.now)) (all_kept l.chain.way.windows);
       ready : IsReady many l.desk;
       turns_fit : AllByRecursion (CanTake many) l.turns;
       ticks : RiseFrom (last_tick taken) l.turns;

@@ -1,8 +1,5 @@
-use Rattle.chain_endings.proofs.Lemmas.{turn_at, State, append-nil, drop_all, drop_more, ◌<◌, ◌≤◌, length, refl, arith, left_next}
+use Rattle.chain_endings.proofs.Lemmas.{turn_at, State, drop_more, ◌<◌, length, arith, left_next}
 use Rattle.chain_endings.proofs.turns.push_entries.Goals as goal
-
-pub loop-i-init : goal.loop-i-init
-loop-i-init c before is = record { now = before; endings_left = is; text_left = refl }
 
 pub loop-i-preserved : goal.loop-i-preserved
 loop-i-preserved c before is =
@@ -10,9 +7,3 @@ loop-i-preserved c before is =
     let within : c.loop-i.i < length entries = omega (arith, c.loop-i-test.true, c.entries-i-end.ensures) in
     let next = drop_more entries c.loop-i.i (record { caller = 0; call = 0; act = State 0 }) within in
     left_next (rw (next, ← c.entry.ensures) at (c.loop-i.invariant before is)) c.in_ok-rest.ensures
-
-pub returns : goal.returns
-returns c before is =
-    let entries = (turn_at c.args.history.now.turns c.args.turn).entries in
-    let past : length entries ≤ c.loop-i.i = omega (arith, c.loop-i-test.false, c.entries-i-end.ensures) in
-    rw (drop_all c.loop-i.i entries past, append-nil) at (c.loop-i.invariant before is).text_left

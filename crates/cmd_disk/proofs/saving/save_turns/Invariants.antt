@@ -16,8 +16,8 @@ invariant-loop-head g l =
       whole : taken ++ l.turns ≡ l.history.turns;
       saves_are : l.saves ≡ length taken;
       stands : Stands lent l.config (reverse taken) l.folding.chain;
-      all_events : length l.folding.chain.filters.windows ≡ many;
-      kept : All (IsShort lent) (all_kept l.folding.chain.filters.windows);
+      all_events : length l.folding.chain.way.windows ≡ many;
+      kept : All (IsShort lent) (all_kept l.folding.chain.way.windows);
       ready : IsReady many l.folding.desk;
       turns_fit : AllByRecursion (CanTake many) l.turns;
       ticks : RiseFrom (last_tick taken) l.turns;

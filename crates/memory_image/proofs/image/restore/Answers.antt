@@ -1,4 +1,4 @@
-use Rattle.memory_image.proofs.ImageLemmas.{◌≡◌, ◌++◌, ◌∷◌, [], reverse, sym, ap, subst, ◌∙◌, rules, arith, nat_tests, append-nil, append_assoc, All, Row, Differ, IsKeepable, All-head, All-push, all_pairs_push, length-reverse, length-append, nil_from_length, reverse-append, List, plain_row, AreKeepable, joined, common_steps, alone, apart, goes_on, read_more}
+use Rattle.memory_image.proofs.ImageLemmas.{◌≡◌, ◌++◌, ◌∷◌, [], reverse, sym, ap, subst, ◌∙◌, rules, arith, append_assoc, All, Row, Differ, IsKeepable, All-head, All-push, all_pairs_push, length-reverse, length-append, reverse-append, List, plain_row, AreKeepable, joined, common_steps, alone, apart, goes_on, read_more}
 use Rattle.memory_image.proofs.image.restore.Goals as goal
 
 pub returns-in_default-clause-none : goal.returns-in_default-clause-none
@@ -46,6 +46,3 @@ loop-rest-preserved c =
       read = rw rows (read_more done row c.args.image.now c.loop-rest.rest.now after so_far.read c.in-Some.ensures.1);
       stands = (adds.items, adds.stands);
     }
-
-pub returns-clause-found : goal.returns-clause-found
-returns-clause-found c = grind (arith, common_steps, nat_tests, nil_from_length, append-nil)

@@ -19,7 +19,7 @@ held p = p.0.now
 -- the fresh chain can take the history and this turn
 pub retake-chain-requires : goal.retake-chain-requires
 retake-chain-requires g c κs =
-    let windows = c.next-chain.result.chain.filters.windows in
+    let windows = c.next-chain.result.chain.way.windows in
     let items = c.deref.result.now in
     let fresh = (c.next-chain.ensures.fresh _ c.self.invariant.fresh).1 in
     let many = ap (λ (v : Remembered). length v.config.events) c.self.view_is in
