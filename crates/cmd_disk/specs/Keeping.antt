@@ -3,8 +3,8 @@
 use Rattle.std.specs.Prelude.{◌+◌, ◌<◌, ◌^◌, ◌≡◌, ◌≤◌, ◌⊎◌}
 use Rattle.cmd_steps.specs.Names.{Damaged, Err, Failed, FailedAfter, IsTrue, List, Ok, Parts, Result, Rose, Row, Turn, WornAfter, [], length, suc, take, zero, ℕ, ⊤}
 use Rattle.chain_plain.specs.Telling.{IsReady}
+use Rattle.event_chain.specs.Chained.{chain_events, chain_kept}
 use Rattle.event_chain.specs.Standing.{Stands}
-use Rattle.filter_aggregate.specs.Account.{all_kept}
 use Rattle.ids_types.specs.declared.parcel.Plain.{Plain}
 use Rattle.memory_disk.specs.Disks.{Run, Shown, State, LeavesOnly, LeavesSince, bytes_of}
 use Rattle.memory_store.specs.Slots.{IsDamaged, KeepsRows, slot_at}
@@ -108,8 +108,8 @@ lent parcel = parcel.0.now
 -- the chain is that of this configuration and took no turn yet, and the desk has room for its turns
 pub record IsNewFolding (config : Parts) (folding : Folding) : Type 0 where
   pub stands_for_none : Stands lent config [] folding.chain
-  pub all_events : length folding.chain.way.windows ≡ length config.events
-  pub nothing_kept : all_kept folding.chain.way.windows ≡ []
+  pub all_events : chain_events folding.chain ≡ length config.events
+  pub nothing_kept : chain_kept folding.chain ≡ []
   pub ready : IsReady (length config.events) folding.desk
 
 -- the end of work whose store could not be begun

@@ -7,8 +7,8 @@ use Rattle.ids_types.specs.{plain_entry, Turn}
 use Rattle.ids_config.specs.Parts.{Parts}
 use Rattle.filter_chain.specs.{last_tick, IsShort, FitsTurn}
 use Rattle.chain_plain.specs.Telling.{HasDeskRoom, Tells}
+use Rattle.event_chain.specs.Chained.{chain_events, chain_kept}
 use Rattle.event_chain.specs.Standing.{Stands}
-use Rattle.filter_aggregate.specs.Account.{all_kept}
 use Rattle.journal.specs.Answers.{told}
 use Rattle.text_spec.specs.JournalText.{journal_text}
 use Rattle.history_spec.specs.{too_small, KeepUpFrom, Asked, reports, changes, sets, Round, lines_at, ticks_of}
@@ -60,8 +60,8 @@ pub record IsAt (config : Parts) (before : List Plan) (calls : List Call) (r : R
   pub counts : AreCounts config (reverse calls ++ calls_of before) r.counts
   pub entries : map plain_entry r.desk.items.items ≡ entries_of config (calls_of before) calls
   pub fits : FitsTurn held (length config.events) r.desk.items.items
-  pub kept : All (IsShort held) (all_kept r.chain.way.windows)
-  pub events : length r.chain.way.windows ≡ length config.events
+  pub kept : All (IsShort held) (chain_kept r.chain)
+  pub events : chain_events r.chain ≡ length config.events
   pub room : HasDeskRoom (length config.events) r.desk
 
 -- it is after some turns

@@ -5,8 +5,8 @@ use Rattle.ids_types.specs.Turns.{Turn}
 use Rattle.ids_config.specs.Parts.{Parts}
 use Rattle.buffer_classes.specs.Buffers.{Buffer}
 use Rattle.filter_chain.specs.Turning.{most_sent}
-use Rattle.filter_aggregate.specs.Account.{all_kept}
 use Rattle.event_chain.specs.Chained.{Chained}
+pub use Rattle.event_chain.specs.Chained.{chain_events, chain_kept}
 use Rattle.event_chain.specs.Standing.{Stands as ChainStands}
 use Rattle.report_queue.specs.Parts.{queue_positions, queue_seats}
 use Rattle.report_api.specs.Passes.{IsPassOf, sizes_of}
@@ -32,14 +32,6 @@ chain_stands chain config turns = ChainStands (λ (buf : Buffer). buf.bytes) con
 -- the manager over the filter chain, which may keep the lines of the last turn
 abbrev pub ChainManager : Type 0
 ChainManager = Over (Chained Buffer) TurnText
-
--- how many events the filter chain knows
-abbrev pub chain_events : Chained Buffer → ℕ
-chain_events chain = length chain.way.windows
-
--- the buffers that its open windows keep
-abbrev pub chain_kept : Chained Buffer → List Buffer
-chain_kept chain = all_kept chain.way.windows
 
 -- the manager stands for these turns of the configuration, the first of them first
 abbrev pub StandsFor : Parts → List Turn → Manager → Type 0

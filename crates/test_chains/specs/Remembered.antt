@@ -5,7 +5,7 @@ use Rattle.ids_types.specs.Turns.{Turn, Turns}
 use Rattle.ids_config.specs.Parts.{Parts}
 use Rattle.event_memory.specs.Held.{Held}
 use Rattle.filter_chain.specs.History.{handed_of, rows_of}
-use Rattle.filter_aggregate.specs.Account.{all_kept}
+use Rattle.event_chain.specs.Chained.{chain_events, chain_kept}
 use Rattle.event_chain.specs.Standing.{Stands as ChainStands}
 use Rattle.chain_plain.specs.{AreInOrder, CanTake, IsReady}
 use Rattle.test_chains.specs.declared.fresh.Fresh.{Fresh}
@@ -26,8 +26,8 @@ remembered c = record { config = c.config.now; history = c.history; limited = c.
 -- the chain of this configuration took no turn and keeps no parcel, and the desk has room for each of its turns
 pub record IsFresh (config : Parts) (fresh : Fresh) : Type 0 where
   pub stands : ChainStands (λ p. p.0.now) config [] fresh.chain
-  pub events : length fresh.chain.way.windows ≡ length config.events
-  pub kept : all_kept fresh.chain.way.windows ≡ []
+  pub events : chain_events fresh.chain ≡ length config.events
+  pub kept : chain_kept fresh.chain ≡ []
   pub ready : IsReady (length config.events) fresh.desk
 
 -- each turn of the history can be taken again, and there is a fresh chain for each turn that there is room for

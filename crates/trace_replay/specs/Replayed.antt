@@ -1,9 +1,8 @@
 -- What a replay of a trace gives, for whatever order the steps of its threads had.
 use Rattle.std.specs.Prelude.{◌≡◌, ℕ, ◌<◌, ◌≤◌, List, length, map, reverse}
 use Rattle.chain_plain.specs.Telling.{ends_of}
-use Rattle.event_chain.specs.Chained.{Chained}
+use Rattle.event_chain.specs.Chained.{Chained, chain_events, chain_kept}
 use Rattle.event_chain.specs.Standing.{Stands as ChainStands}
-use Rattle.filter_aggregate.specs.Account.{all_kept}
 use Rattle.filter_chain.specs.declared.log.Unlogged.{Unlogged}
 use Rattle.trace_replay.specs.Names.{AreSettled, Buffer, ClassRest, Fits, HaveAllCalls, IsCausal, IsMadeFor, IsManagerOf, IsMerge, Loss, Manager, Parts, PassMemo, Rested, Round, Shared, Stands, Turn, asks_back, calls_by, came, count_of, desk_memo, givers_of, losses_in, messages_of, rests_of}
 use Rattle.trace_replay.specs.Rests.{IsClassRest, all_rests, as_told, rest_after}
@@ -63,13 +62,6 @@ RunManager = Manager (Chained Buffer) Unlogged
 -- an event chain over context data buffers stands for these turns
 abbrev pub chain_stands : Chained Buffer → Parts → List Turn → Type 0
 chain_stands chain config turns = ChainStands (λ (buf : Buffer). buf.bytes) config (reverse turns) chain
-
--- for how many events it counts, and the buffers that it keeps
-abbrev pub chain_events : Chained Buffer → ℕ
-chain_events chain = length chain.way.windows
-
-abbrev pub chain_kept : Chained Buffer → List Buffer
-chain_kept chain = all_kept chain.way.windows
 
 -- a manager over it that replayed these rounds, and what that gave
 abbrev pub IsReplay : Parts → List Round → RunManager → Gives → Type 0

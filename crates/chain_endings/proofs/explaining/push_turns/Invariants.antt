@@ -1,5 +1,5 @@
 use Rattle.chain_endings.proofs.Lemmas.{CanTake, RiseFrom, IsReady, Turn, ◌≡◌, ◌++◌, [], List, length, reverse, All, AllByRecursion, text_of, turns_lines, Hears, last_tick, IsShort, StandsWatched}
-use Rattle.filter_aggregate.specs.Account.{all_kept}
+use Rattle.event_chain.specs.Chained.{chain_events, chain_kept}
 use Rattle.chain_endings.proofs.explaining.push_turns.Given as goal
 
 -- the chain stands for the turns that were taken, their lines have been printed, and what is left can be taken
@@ -12,8 +12,8 @@ invariant-loop-head l =
       text : l.out.items ++ text_of (turns_lines l.config (reverse taken) l.turns)
           ≡ l.initial.out.items ++ text_of (turns_lines l.config [] l.history.turns);
       count : l.turn ≡ length taken;
-      all_events : length l.chain.way.windows ≡ many;
-      kept : All (IsShort (λ p. p.0.now)) (all_kept l.chain.way.windows);
+      all_events : chain_events l.chain ≡ many;
+      kept : All (IsShort (λ p. p.0.now)) (chain_kept l.chain);
       ready : IsReady many l.desk;
       turns_fit : AllByRecursion (CanTake many) l.turns;
       ticks : RiseFrom (last_tick taken) l.turns;

@@ -1,7 +1,7 @@
 use Rattle.cmd_disk.proofs.Names.{All, AllByRecursion, CanTake, IsReady, IsTrue, KeepsRows, LeavesOnly, List, RiseFrom, Row, Turn, last_tick, length, lent, reverse, ◌++◌, ◌+◌, ◌≡◌}
 use Rattle.filter_chain.specs.Parcels.{IsShort}
+use Rattle.event_chain.specs.Chained.{chain_events, chain_kept}
 use Rattle.event_chain.specs.Standing.{Stands}
-use Rattle.filter_aggregate.specs.Account.{all_kept}
 use Rattle.cmd_disk.proofs.SavingLemmas.{IsSavedTo}
 use Rattle.cmd_disk.proofs.saving.save_turns.Given as goal
 
@@ -16,8 +16,8 @@ invariant-loop-head g l =
       whole : taken ++ l.turns ≡ l.history.turns;
       saves_are : l.saves ≡ length taken;
       stands : Stands lent l.config (reverse taken) l.folding.chain;
-      all_events : length l.folding.chain.way.windows ≡ many;
-      kept : All (IsShort lent) (all_kept l.folding.chain.way.windows);
+      all_events : chain_events l.folding.chain ≡ many;
+      kept : All (IsShort lent) (chain_kept l.folding.chain);
       ready : IsReady many l.folding.desk;
       turns_fit : AllByRecursion (CanTake many) l.turns;
       ticks : RiseFrom (last_tick taken) l.turns;
