@@ -1,4 +1,5 @@
 pub mod Cuts
+pub mod FirstUnit
 pub mod Packing
 pub mod Stream
 pub mod Units

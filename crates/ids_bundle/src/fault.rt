@@ -3,6 +3,7 @@
 ghost use Rattle.std.specs.Prelude.{◌≡◌};
 ghost use Rattle.ids_bundle.specs.declared.fault.PackFault.TheVariants as packing;
 ghost use Rattle.ids_bundle.specs.declared.fault.UnpackFault.TheVariants as unpacking;
+ghost use Rattle.ids_bundle.specs.declared.fault.UnitFault.TheVariants as putting;
 
 use ids_frame::BadMessage;
 use std::alloc::AllocError;
@@ -23,6 +24,27 @@ impl From<AllocError> for PackFault {
 
     fn from(_: AllocError) -> Self {
         PackFault::NoMemory
+    }
+}
+
+/// Why no unit was put into a buffer.
+#[derive(Clone, Copy, Debug, PartialEq, Eq)]
+pub enum UnitFault {
+    /// The size is below 64.
+    SmallSize,
+    /// There are no messages.
+    NoMessages,
+    /// The first message cannot be read, or is longer than the size. This is never `NoMemory`.
+    First(PackFault),
+    /// The buffer has fewer bytes than the unit, which needs so many.
+    Short { wanted: usize },
+}
+
+impl From<PackFault> for UnitFault {
+    ghost from_gives = { λ first fault. fault ≡ putting.First first };
+
+    fn from(first: PackFault) -> Self {
+        UnitFault::First(first)
     }
 }
 

@@ -2,12 +2,13 @@
 //!
 //! Layer 9, traces and files. Over `ids_types` and `ids_frame`. `pack` makes the units of a file of messages,
 //! `unpack` takes the messages out of a file of units, and an `Unpacker` takes them out of a stream that comes in
-//! any pieces. The layout of a unit is this project's own (`specs/Units.antt`).
+//! any pieces. `put_unit` puts one unit at a time into a buffer. The layout of a unit is this project's own
+//! (`specs/Units.antt`).
 //! Contracts speak of runs of messages: the cut that `pack` makes has the fewest runs (`specs/Cuts.antt`), each call
-//! has one answer (`specs/Packing.antt`, `specs/Unpacking.antt`), and an `Unpacker` is seen as the place where its
-//! stream stands (`specs/Stream.antt`).
+//! has one answer (`specs/Packing.antt`, `specs/FirstUnit.antt`, `specs/Unpacking.antt`), and an `Unpacker` is seen as
+//! the place where its stream stands (`specs/Stream.antt`).
 //! No clause says what a call costs. Each goes over its bytes a fixed number of times and copies each once, and
-//! `feed` takes no memory.
+//! `put_unit` and `feed` take no memory.
 #![tactic(auto)]
 
 mod fault;
@@ -16,8 +17,10 @@ mod unit;
 mod unpacker;
 mod unpacking;
 
-pub use fault::{PackFault, UnpackFault};
-pub use packing::{fewest_runs, one_pack_answer, one_packing, pack};
-pub use unit::Count;
+pub use fault::{PackFault, UnitFault, UnpackFault};
+pub use packing::{
+    fewest_runs, first_of_packed, one_pack_answer, one_packing, one_unit_answer, pack, put_unit,
+};
+pub use unit::{Count, UnitPut};
 pub use unpacker::{Fed, Unpacker, any_pieces, one_reading};
 pub use unpacking::{count, one_unpack_answer, unpack, unpacks_again};

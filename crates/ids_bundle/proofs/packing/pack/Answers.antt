@@ -1,19 +1,17 @@
-use Rattle.ids_bundle.proofs.Names.{[], sym, ◌∙◌, arith, rules, common_steps, eqb-false}
+use Rattle.ids_bundle.proofs.Names.{arith, common_steps}
 use Rattle.ids_bundle.proofs.UnitLemmas.{few_messages}
-use Rattle.ids_bundle.proofs.PackLemmas.{packing_keeps, packing_closes, packing_ends}
+use Rattle.ids_bundle.proofs.PackLemmas.{packing_more, packing_ends}
 use Rattle.ids_bundle.proofs.packing.pack.Goals as goal
 
-pub loop-load-init : goal.loop-load-init
-loop-load-init c = record { front = []; rest = c.args.messages.now; run = []; stands = grind (arith, common_steps) }
+-- a run has a message
+pub loop-rest-smaller : goal.loop-rest-smaller
+loop-rest-smaller c =
+    let first = c.in_ok-number.ensures.first in
+    omega (arith, few_messages first.0, first.1.is_run.some, first.3)
 
-pub overflow_add-number : goal.overflow_add-number
-overflow_add-number c = grind (arith, common_steps, few_messages)
-
--- the next message begins a run or fits into the open one
-pub loop-load-preserved : goal.loop-load-preserved
-loop-load-preserved c = search (rules, packing_keeps, packing_closes) fits 4000
+pub loop-rest-preserved : goal.loop-rest-preserved
+loop-rest-preserved c =
+    packing_more _ _ _ _ _ _ _ _ _ c.loop-rest.invariant c.in_ok-number.ensures.first c.split_at.ensures.front c.split_at.ensures.back c.in_ok-push_unit.ensures
 
 pub returns-clause-packed : goal.returns-clause-packed
-returns-clause-packed c =
-    packing_ends _ _ _ _ _ _ _ c.loop-load.invariant (omega (arith, eqb-false _ _ (sym c.is_empty.ensures ∙ c.if-is_empty.false)))
-    c.loop-load-test.false c.in_ok-push_unit-2.ensures
+returns-clause-packed c = packing_ends _ _ _ _ c.loop-rest.invariant (grind (arith, common_steps))
