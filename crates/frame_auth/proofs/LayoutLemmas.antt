@@ -163,7 +163,7 @@ pub writes_sealed : (key : List ℕ) → Writes (joined_sealed key) (sealed key)
 writes_sealed key = grind (arith, common_steps, bare_is, sealed_fits)
 
 -- one message more
-written_more : {write : ℕ → List MessageParts → List ℕ} {form : ℕ → MessageParts → MessageParts} → Writes write form
+pub written_more : {write : ℕ → List MessageParts → List ℕ} {form : ℕ → MessageParts → MessageParts} → Writes write form
     → (due now : ℕ) (ms : List MessageParts) (m : MessageParts) → now ≡ due + length ms
     → write due (ms ++ m ∷ []) ≡ write due ms ++ spelling (form now m)
 written_more {write} {form} w due now [] m e = search rules
@@ -178,7 +178,7 @@ pub record Goes (from to : ℕ → List MessageParts → List ℕ) (start due : 
   pub next : due ≡ start + length front
   pub few : length front * 8 ≤ length (from start front)
 
-length-spelling : (m : MessageParts) → 8 ≤ length (spelling m)
+pub length-spelling : (m : MessageParts) → 8 ≤ length (spelling m)
 length-spelling m = omega arith
 
 -- and then one more

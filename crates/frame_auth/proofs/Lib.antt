@@ -1,3 +1,4 @@
+pub mod IntoLemmas
 pub mod LayoutLemmas
 pub mod Names
 pub mod OneAnswer

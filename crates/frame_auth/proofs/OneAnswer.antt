@@ -90,7 +90,7 @@ bad_one : (at : ℕ) (bytes : List ℕ) (f g : BadMessage) → AreBytes bytes �
 bad_one at bytes f g fit p q = grind (arith, common_steps, read_one)
 
 -- it is not read
-bad_apart : (at : ℕ) (bytes : List ℕ) (f : BadMessage) (m : MessageParts) (behind : List ℕ) → AreBytes bytes → CannotRead f at bytes
+pub bad_apart : (at : ℕ) (bytes : List ℕ) (f : BadMessage) (m : MessageParts) (behind : List ℕ) → AreBytes bytes → CannotRead f at bytes
     → BeginsWith bytes m behind → ⊥
 bad_apart at bytes f m behind fit p begins = absurd (cc (read_one bytes fit (Err f.fault) (Ok (m, behind)) p.1 begins))
 

@@ -1,6 +1,7 @@
 //! Why messages are not sealed, or not unsealed.
 ghost use Rattle.std.specs.Prelude.{◌≡◌};
 ghost use Rattle.frame_auth.specs.declared.fault.SealFault.TheVariants as seals;
+ghost use Rattle.frame_auth.specs.declared.fault.SealIntoFault.TheVariants as into;
 ghost use Rattle.frame_auth.specs.declared.fault.UnsealFault.TheVariants as unseals;
 
 use ids_frame::BadMessage;
@@ -30,6 +31,25 @@ impl From<AllocError> for SealFault {
 
     fn from(_: AllocError) -> Self {
         SealFault::NoMemory
+    }
+}
+
+/// Why messages are not sealed into a buffer.
+#[derive(Clone, Copy, Debug, PartialEq, Eq)]
+pub enum SealIntoFault {
+    /// The first counter is above 2^62.
+    Start,
+    /// The messages are not sealed, and why. This is never `NoMemory`.
+    Messages(SealFault),
+    /// The buffer has fewer bytes than are needed, which are so many; 2^64 - 1 stands for more, too.
+    Short { wanted: usize },
+}
+
+impl From<SealFault> for SealIntoFault {
+    ghost from_gives = { λ told fault. fault ≡ into.Messages told };
+
+    fn from(fault: SealFault) -> Self {
+        SealIntoFault::Messages(fault)
     }
 }
 

@@ -2,7 +2,7 @@
 //! exactly where its definition holds, want of memory aside.
 ghost use Rattle.std.specs.Prelude.{◌≡◌, ◌≢◌, ◌↔◌, ℕ, ◌+◌, ◌<◌, ◌^◌, List, length, AllPairs, Result, Ok};
 ghost use Rattle.ids_frame.specs.{AreBytes, MessageParts, joined};
-ghost use Rattle.frame_auth.specs.{SealFault, UnsealFault, GivesSealed, GivesUnsealed, AreOf, AnswersInOrder, ArePlain, sealed_from};
+ghost use Rattle.frame_auth.specs.{SealFault, SealIntoFault, UnsealFault, GivesSealed, PutsSealed, GivesUnsealed, AreOf, AnswersInOrder, ArePlain, sealed_from};
 
 /// What was sealed unseals to the same bytes.
 #[tactic(auto, using(crate::proofs::OneAnswer::sealed_opens_lem))]
@@ -15,6 +15,13 @@ pub fn sealed_opens()
 pub fn one_sealing()
     ensures { (key : List ℕ) (start : ℕ) (bytes : List ℕ) (a b : Result (List ℕ) SealFault)
         → AreBytes bytes → GivesSealed key start bytes a → GivesSealed key start bytes b → a ≡ b }
+{}
+
+/// Sealing into a buffer puts one thing, or nothing for one reason.
+#[tactic(auto, using(crate::proofs::IntoLemmas::one_sealing_into_lem))]
+pub fn one_sealing_into()
+    ensures { (key : List ℕ) (start room : ℕ) (bytes : List ℕ) (a b : Result (List ℕ) SealIntoFault)
+        → AreBytes bytes → PutsSealed key start room bytes a → PutsSealed key start room bytes b → a ≡ b }
 {}
 
 /// Unsealing gives one answer.

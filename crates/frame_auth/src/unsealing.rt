@@ -4,11 +4,8 @@ ghost use Rattle.frame_auth.specs.{GivesUnsealed, StopsUnseal, Moves, CanUnmark,
 
 use crate::fault::UnsealFault;
 use crate::key::{Key, tag};
-use crate::sealing::{SIGNATURE_BIT, first_message};
+use crate::sealing::{SEALED_PART, SIGNATURE_BIT, first_message};
 use std::alloc::{AllocError, Global};
-
-/// How many bytes a message's signature part has with a seal: two of its length, and the seal.
-const SEALED_PART: usize = 42;
 
 /// The messages that were sealed with the counters `start`, `start + 1` and so on, without their
 /// seals, or the first fault. Of one message the faults are sought in the order of the variants.

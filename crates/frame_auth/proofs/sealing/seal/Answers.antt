@@ -1,12 +1,9 @@
-use Rattle.frame_auth.proofs.Names.{sym, ◌∙◌, StopsSeal, err_from_is_err_and}
-use Rattle.frame_auth.proofs.LayoutLemmas.{goes_on, writes_plain, writes_sealed, stops_here}
+use Rattle.frame_auth.proofs.Names.{◌≡◌, arith, common_steps}
+use Rattle.ids_frame.proofs.DecodeLemmas.{are_bytes}
+use Rattle.frame_auth.proofs.IntoLemmas.{sealed_whole}
 use Rattle.frame_auth.proofs.sealing.seal.Goals as goal
 
-pub loop-rest-preserved : goal.loop-rest-preserved
-loop-rest-preserved c = goes_on writes_plain (writes_sealed c.args.key.now) c.loop-rest.invariant c.in_ok-rest.ensures.found
-
-pub returns-in_err-rest-clause-place : goal.returns-in_err-rest-clause-place
-returns-in_err-rest-clause-place c =
-    let told = err_from_is_err_and c.from_residual.result c.from_residual.ensures.1 in
-    rw (told.1, told.2) (stops_here (λ fault due at l. StopsSeal fault at l) c.loop-rest.invariant
-    (sym c.is_empty.ensures ∙ c.loop-rest-test.true) c.in_err-rest.ensures.place)
+pub returns-clause-found : goal.returns-clause-found
+returns-clause-found c =
+    let is_len : c.resize.new.self.len ≡ c.in_ok-len.len = grind (arith, common_steps) in
+    sealed_whole _ _ (are_bytes _ c.type_inv.messages) (c.in_ok-len.ensures.len _ _) (omega (arith, is_len)) c.seal_all.ensures (omega (arith, is_len)) is_len

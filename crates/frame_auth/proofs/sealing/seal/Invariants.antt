@@ -1,9 +1,0 @@
-use Rattle.frame_auth.proofs.Names.{length, joined, joined_sealed}
-use Rattle.frame_auth.proofs.LayoutLemmas.{Goes}
-use Rattle.frame_auth.proofs.sealing.seal.Given as goal
-
-abbrev pub invariant-loop-rest : goal.invariant-loop-rest
-invariant-loop-rest l = Goes (λ due ms. joined ms) (joined_sealed l.key) l.start l.due l.messages l.rest l.out.items
-
-abbrev pub decreases-loop-rest : goal.decreases-loop-rest
-decreases-loop-rest l = length l.rest
