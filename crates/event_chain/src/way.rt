@@ -218,6 +218,7 @@ fn let_through<B: Parcel>(item: Qualified<B>, context: bool, back: &mut Vec<B>) 
 }
 
 /// Lets an item into its event's window, with its context data or without, and hands back the parcel that the window does not keep.
+#[inline(always)]
 fn join<B: Parcel>(
     windows: &mut Windows<B>,
     tick: u64,
@@ -244,6 +245,7 @@ fn join<B: Parcel>(
 }
 
 /// Takes an item to the steps after the windows, with its context data or without, and hands back its parcel. Returns its fate.
+#[inline(always)]
 fn leave<B: Parcel>(
     rest: &mut Rest,
     bypasses: bool,
