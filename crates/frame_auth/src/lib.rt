@@ -1,6 +1,7 @@
 //! A counter and a tag in the signature part of messages: sealed, and checked and taken off again.
 //!
-//! Layer 9, traces and files. Stands on `ids_frame` and the kit's `sha2`; the commands `sign` and `verify` stand on it.
+//! Layer 4, messages and texts. Stands on `ids_frame` and the kit's `sha2`; the commands `sign` and `verify`, and the C
+//! interface, stand on it.
 //! A tag is HMAC with SHA-256, RFC 2104 (`specs/Tags.antt`); what it is put to here is this project's own.
 //! `seal` and `unseal` go over a file message by message, and `seal_into` seals into a buffer. `specs/Sealing.antt` says
 //! what sealed messages are, `specs/Faults.antt` where sealing and unsealing stop, by the same definitions, and

@@ -1,9 +1,9 @@
 //! Messages packed whole into units, for a bus whose frames have one size, and taken out again.
 //!
-//! Layer 9, traces and files. Over `ids_types` and `ids_frame`. `pack` makes the units of a file of messages,
-//! `unpack` takes the messages out of a file of units, and an `Unpacker` takes them out of a stream that comes in
-//! any pieces. `put_unit` puts one unit at a time into a buffer. The layout of a unit is this project's own
-//! (`specs/Units.antt`).
+//! Layer 4, messages and texts. Over `ids_types` and `ids_frame`; the commands `bundle` and `unbundle`, and the C
+//! interface, stand on it. `pack` makes the units of a file of messages, `unpack` takes the messages out of a file of
+//! units, and an `Unpacker` takes them out of a stream that comes in any pieces. `put_unit` puts one unit at a time into a
+//! buffer. The layout of a unit is this project's own (`specs/Units.antt`).
 //! Contracts speak of runs of messages: the cut that `pack` makes has the fewest runs (`specs/Cuts.antt`), each call
 //! has one answer (`specs/Packing.antt`, `specs/FirstUnit.antt`, `specs/Unpacking.antt`), and an `Unpacker` is seen as
 //! the place where its stream stands (`specs/Stream.antt`).
