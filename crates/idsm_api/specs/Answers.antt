@@ -5,7 +5,7 @@ use Rattle.report_api.specs.declared.answer.Control.TheVariants as controls
 use Rattle.report_api.specs.declared.answer.Report.{Report}
 use Rattle.report_api.specs.declared.answer.Report.TheVariants as reports
 use Rattle.idsm_api.specs.declared.answer.Answer.{Answer}
-use Rattle.idsm_api.specs.declared.answer.Answer.TheVariants.{Done, Unset, OtherRole, LostEvent, WithoutContext, UnknownEvent, ZeroCount, Spent, TickBack, TickTooLarge, OutOfRange, NoMemory, Configuration, SmallBuffer, Occupied}
+use Rattle.idsm_api.specs.declared.answer.Answer.TheVariants.{Done, Unset, OtherRole, LostEvent, WithoutContext, UnknownEvent, ZeroCount, Spent, TickBack, TickTooLarge, OutOfRange, NoMemory, Configuration, SmallBuffer, Occupied, BadMessage}
 
 -- the number of an answer
 abbrev pub code_of : Answer → ℕ
@@ -24,6 +24,7 @@ code_of NoMemory = 11
 code_of Configuration = 12
 code_of SmallBuffer = 13
 code_of Occupied = 14
+code_of BadMessage = 20
 
 -- the answer of a report
 abbrev pub report_answer : Report → Answer

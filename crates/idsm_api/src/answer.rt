@@ -37,10 +37,12 @@ pub enum Answer {
     SmallBuffer,
     /// The handle has something already.
     Occupied,
+    /// A message cannot be read, is longer than a unit may be, or is signed already.
+    BadMessage,
 }
 
 impl Answer {
-    /// The number of the answer.
+    /// The number of the answer. Those from 15 to 19 are of the C interface alone.
     /// By: `code_of`; no loop.
     pub fn code(self) -> u8
         ensures { result ≡ code_of self }
@@ -61,6 +63,7 @@ impl Answer {
             Answer::Configuration => 12,
             Answer::SmallBuffer => 13,
             Answer::Occupied => 14,
+            Answer::BadMessage => 20,
         }
     }
 }
