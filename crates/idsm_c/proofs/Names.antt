@@ -44,7 +44,7 @@ pub use types.Logic.{sem, Logic}
 pub use types.Part.{agg, sub, whole}
 pub use types.Run.{and_then, enter, exec, first, fld, lit, no_more, of_opd, returns, stop, blocks, bin, branches}
 pub use Rattle.idsm_api.specs.declared.role.Role.{Role}
-pub use Rattle.std.proofs.lemmas.List.{append_assoc, drop-set, get_or-map, length_push, length-map, length-set, map-append, map-set}
+pub use Rattle.std.proofs.lemmas.List.{append_assoc, drop-replicate, drop-set, get_or-map, length_push, length-map, length-set, map-append, map-set}
 pub use Rattle.std.proofs.lemmas.List.Elements.{All-map, All-pop}
 pub use Rattle.std.specs.contracts.impls.GlobalAllocator.TheImpl.{ghosts}
 pub use denote.Struct.Struct.{within, exits_of}

@@ -3,6 +3,8 @@ pub mod Closing
 pub mod Held
 pub mod Making
 pub mod Opened
+pub mod Packing
 pub mod Reading
+pub mod Sealing
 pub mod Status
 pub mod Turning
