@@ -98,7 +98,7 @@ static void numbers(void)
                                   IDSM_UNKNOWN_EVENT, IDSM_ZERO_COUNT, IDSM_SPENT, IDSM_TICK_BACK,
                                   IDSM_TICK_TOO_LARGE, IDSM_OUT_OF_RANGE, IDSM_NO_MEMORY, IDSM_CONFIGURATION,
                                   IDSM_SMALL_BUFFER, IDSM_OCCUPIED, IDSM_NULL, IDSM_BUSY, IDSM_CLOSED,
-                                  IDSM_NOT_SENT, IDSM_OTHER_CONFIGURATION};
+                                  IDSM_NOT_SENT, IDSM_OTHER_CONFIGURATION, IDSM_BAD_MESSAGE};
     static const unsigned modes[] = {IDSM_MODE_OFF, IDSM_MODE_BRIEF, IDSM_MODE_DETAILED, IDSM_MODE_BRIEF_BYPASSING,
                                      IDSM_MODE_DETAILED_BYPASSING};
     for (unsigned i = 0; i < sizeof is / sizeof is[0]; i++)
@@ -159,6 +159,9 @@ static void numbers(void)
     expect("occurrences", 36, offsetof(idsm_row, occurrences));
     expect("sensor", 38, offsetof(idsm_row, sensor));
     expect("has_stamp", 39, offsetof(idsm_row, has_stamp));
+    expect("a sealer", 80, sizeof(idsm_sealer));
+    expect("its key", 8, offsetof(idsm_sealer, key));
+    expect("whether it is filled", 72, offsetof(idsm_sealer, is_set));
 }
 
 /* Where the fields of a configuration stand: the proved library reads it as it is. */
@@ -487,39 +490,166 @@ static void expect_whole(const char *what, const uint8_t *bytes, size_t count)
         expect_length(what, 0, bytes, front, 0);
 }
 
+/* Three messages, of 8, 11 and 16 bytes. */
+static const uint8_t three[] = {0x10, 4, 0x83, 0, 42, 0, 1, 0, 0x21, 4, 0x83, 0, 42, 0, 1, 7, 2, 0xa1, 0xb2,
+                                0x12, 4, 0x83, 0, 42, 0, 1, 0, 1, 2, 3, 4, 5, 6, 7, 8};
+
 static void walks(void)
 {
-    static const uint8_t messages[] = {0x10, 4, 0x83, 0, 42, 0, 1, 0, 0x21, 4, 0x83, 0, 42, 0, 1, 7, 2, 0xa1, 0xb2,
-                                       0x12, 4, 0x83, 0, 42, 0, 1, 0, 1, 2, 3, 4, 5, 6, 7, 8};
     static const uint8_t large[1044] = {0x13, 4, 0x83, 0, 42, 0, 1, 0, 1, 2, 3, 4, 5, 6, 7, 8, 0x80, 0, 4, 0};
     static const uint8_t short_one[9 + 127] = {0x11, 4, 0x83, 0, 42, 0, 1, 0, 127};
     static const uint8_t empty[12] = {0x11, 4, 0x83, 0, 42, 0, 1, 0, 0x80, 0, 0, 0};
     static const uint8_t wide[12] = {0x11, 4, 0x83, 0, 42, 0, 1, 0, 0xff, 0xff, 0xff, 0xff};
     static const uint8_t huge[12] = {0x11, 4, 0x83, 0, 42, 0, 1, 0, 0x80, 1, 0, 0};
-    static const uint8_t signed_one[10] = {0x14, 4, 0x83, 0, 42, 0, 1, 0, 0, 0};
+    static const uint8_t signed_one[14] = {0x15, 4, 0x83, 0, 42, 0, 1, 0, 1, 9, 0, 2};
+    static const uint8_t unknown[8] = {0x18, 4, 0x83, 0, 42, 0, 1, 0};
     static const uint8_t other[8] = {0x30, 4, 0x83, 0, 42, 0, 1, 0}, older[8] = {0x00, 4, 0x83, 0, 42, 0, 1, 0};
     size_t length;
-    expect_length("a message", 8, messages, sizeof messages, 0);
-    expect_length("a message with context", 11, messages, sizeof messages, 8);
-    expect_length("a message with timestamp", 16, messages, sizeof messages, 19);
-    expect_length("a cut one", 0, messages, sizeof messages - 1, 19);
-    expect_length("the end", 0, messages, sizeof messages, sizeof messages);
-    expect_length("behind the end", 0, messages, sizeof messages, 100);
-    expect_length("no message", 0, messages, sizeof messages, 1);
-    expect_whole("the first", messages, 8);
-    expect_whole("the second", messages + 8, 11);
-    expect_whole("the third", messages + 19, 16);
+    expect_length("a message", 8, three, sizeof three, 0);
+    expect_length("a message with context", 11, three, sizeof three, 8);
+    expect_length("a message with timestamp", 16, three, sizeof three, 19);
+    expect_length("a cut one", 0, three, sizeof three - 1, 19);
+    expect_length("the end", 0, three, sizeof three, sizeof three);
+    expect_length("behind the end", 0, three, sizeof three, 100);
+    expect_length("no message", 0, three, sizeof three, 1);
+    expect_whole("the first", three, 8);
+    expect_whole("the second", three + 8, 11);
+    expect_whole("the third", three + 19, 16);
     expect_whole("the longest", large, sizeof large);
     expect_whole("the longest in short form", short_one, sizeof short_one);
     expect_whole("an empty context in long form", empty, sizeof empty);
     expect_length("a context of 2^31 - 1 bytes", 0, wide, sizeof wide, 0);
     expect_length("a context of 2^16 bytes", 0, huge, sizeof huge, 0);
-    expect_length("a signed one", 0, signed_one, sizeof signed_one, 0);
+    expect_whole("a signed one", signed_one, sizeof signed_one);
+    expect_length("one with an unknown part", 0, unknown, sizeof unknown, 0);
     expect_length("one of version 3", 0, other, sizeof other, 0);
     expect_length("one of version 0", 0, older, sizeof older, 0);
     expect("no bytes", 10, idsm_message(NULL, 0, 0, &length));
     expect("NULL as messages", 15, idsm_message(NULL, 8, 0, &length));
-    expect("NULL as length", 15, idsm_message(messages, sizeof messages, 0, NULL));
+    expect("NULL as length", 15, idsm_message(three, sizeof three, 0, NULL));
+}
+
+/* What a call wrote to the front of a buffer of 0xa5, and nothing behind it. */
+static uint8_t written[80];
+
+static void expect_written(const char *what, const uint8_t *wanted, size_t count)
+{
+    size_t other = 0;
+    for (size_t i = 0; i < sizeof written; i++)
+        other += written[i] != (i < count ? wanted[i] : 0xa5);
+    expect(what, 0, other);
+    memset(written, 0xa5, sizeof written);
+}
+
+/* A unit of so many bytes that took so many of messages, whose two numbers are these; or why there is none. */
+static void expect_unit(const char *what, uint8_t answer, uint16_t size, const uint8_t *from, size_t bytes, size_t room,
+                        size_t unit, size_t taken, uint8_t number)
+{
+    uint8_t wanted[sizeof written] = {0, number, 0, (uint8_t)taken};
+    size_t unit_bytes = 77, took = 77;
+    expect(what, answer, idsm_unit(size, bytes == 0 ? from : at_end(from, bytes), bytes, written, room, &unit_bytes, &took));
+    expect(what, unit, unit_bytes);
+    expect(what, taken, took);
+    memcpy(wanted + 4, from, taken);
+    expect_written(what, wanted, answer == IDSM_DONE ? unit : 0);
+}
+
+static void units(void)
+{
+    uint8_t nine[72], bad[35];
+    size_t number;
+    for (size_t i = 0; i < sizeof nine; i++)
+        nine[i] = three[i % 8];
+    memset(written, 0xa5, sizeof written);
+    expect_unit("a unit", 0, 64, three, 35, 39, 39, 35, 3);
+    expect_unit("one without room", 13, 64, three, 35, 38, 39, 0, 0);
+    expect_unit("one before a cut message", 0, 64, three, 34, 80, 23, 19, 2);
+    expect_unit("a cut message", 20, 64, three, 7, 80, 0, 0, 0);
+    expect_unit("eight of nine messages", 0, 64, nine, 72, 80, 68, 64, 8);
+    expect_unit("and the ninth", 0, 64, nine + 64, 8, 80, 12, 8, 1);
+    expect_unit("a size of 71", 0, 71, nine, 72, 80, 68, 64, 8);
+    expect_unit("a size of 72", 0, 72, nine, 72, 80, 76, 72, 9);
+    expect_unit("a size of 63", 10, 63, three, 35, 80, 0, 0, 0);
+    expect_unit("no messages", 10, 64, three, 0, 80, 0, 0, 0);
+    for (unsigned bit = 3; bit < 8; bit++) {
+        memcpy(bad, three, sizeof bad);
+        bad[8] ^= (uint8_t)(1u << bit);
+        expect_unit("a unit before a turned bit", 0, 64, bad, 35, 80, 12, 8, 1);
+        bad[0] = bad[8];
+        expect_unit("a turned bit", 20, 64, bad, 35, 80, 0, 0, 0);
+    }
+    expect("NULL as messages", 15, idsm_unit(64, NULL, 1, written, 80, &number, &number));
+    expect("NULL as a unit", 15, idsm_unit(64, three, 35, NULL, 1, &number, &number));
+    expect("no unit", 13, idsm_unit(64, three, 35, NULL, 0, &number, &number));
+    expect("NULL as its bytes", 15, idsm_unit(64, three, 35, written, 80, NULL, &number));
+    expect("NULL as what it took", 15, idsm_unit(64, three, 35, written, 80, &number, NULL));
+    expect_written("without a unit", written, 0);
+}
+
+/* What sealing messages into so much room answers, and tells. But for a sealed one nothing is changed. */
+static void expect_seal(const char *what, uint8_t answer, idsm_sealer *sealer, const uint8_t *from, size_t bytes,
+                        size_t room, size_t told)
+{
+    const idsm_sealer old = *sealer;
+    size_t number = 77;
+    expect(what, answer, idsm_seal(sealer, bytes == 0 ? from : at_end(from, bytes), bytes, written, room, &number));
+    expect(what, told, number);
+    if (answer != IDSM_DONE || bytes == 0) {
+        expect(what, 0, (uint64_t)memcmp(sealer, &old, sizeof old));
+        expect_written(what, written, 0);
+    }
+}
+
+static void refused_keys(idsm_sealer *sealer)
+{
+    static idsm_sealer zeros;
+    uint8_t key[65] = {0};
+    expect("a key of no bytes", 10, idsm_sealer_init(sealer, key, 0, 5));
+    expect("a key at NULL of no bytes", 10, idsm_sealer_init(sealer, NULL, 0, 5));
+    expect("a key of 65 bytes", 10, idsm_sealer_init(sealer, key, 65, 5));
+    expect("a start above 2^62", 10, idsm_sealer_init(sealer, key, 64, ((uint64_t)1 << 62) + 1));
+    expect("NULL as a key", 15, idsm_sealer_init(sealer, NULL, 1, 5));
+    expect("NULL as a sealer", 15, idsm_sealer_init(NULL, key, 1, 5));
+    expect("the sealer", 0, (uint64_t)memcmp(sealer, &zeros, sizeof zeros));
+}
+
+/* The second message sealed under the key `Jefe` with the counter 5, by the hmac of Python. */
+static const uint8_t sealed[53] = {
+    0x25, 4, 0x83, 0, 0x2a, 0, 1, 7, 2, 0xa1, 0xb2, 0, 0x28, 0, 0, 0, 0, 0, 0, 0, 5, 0x53, 0x64, 0x46, 0xb7, 0xc5,
+    0x79, 0x29, 0xd5, 0xb4, 0x88, 0x28, 0x9f, 0xed, 0x3e, 0x1f, 7, 0x55, 0xf2, 0x5f, 0x68, 0x10, 0xdc, 0x37, 0xe7,
+    0x54, 0x5d, 0x79, 0x4a, 0xda, 0x6f, 0xe2, 0x47};
+
+static void seals(void)
+{
+    static idsm_sealer sealer;
+    uint8_t bad[35];
+    size_t number;
+    memset(written, 0xa5, sizeof written);
+    refused_keys(&sealer);
+    expect_seal("zeros as a sealer", 1, &sealer, three, 8, 80, 0);
+    expect("a key", 0, idsm_sealer_init(&sealer, (const uint8_t *)"Jefe", 4, 5));
+    memcpy(bad, three, sizeof bad);
+    bad[8] = 0x29;
+    expect_seal("a turned bit", 20, &sealer, bad, 35, 80, 8);
+    expect_seal("a cut message", 20, &sealer, three, 34, 80, 19);
+    expect_seal("a signed message", 20, &sealer, sealed, 53, 80, 0);
+    expect_seal("one without room", 13, &sealer, three + 8, 11, 52, 53);
+    expect_seal("no room", 13, &sealer, three, 35, 0, 161);
+    expect_seal("no messages", 0, &sealer, three, 0, 0, 0);
+    expect("NULL as messages", 15, idsm_seal(&sealer, NULL, 1, written, 80, &number));
+    expect("NULL as a buffer", 15, idsm_seal(&sealer, three, 8, NULL, 1, &number));
+    expect("NULL as a sealer of messages", 15, idsm_seal(NULL, three, 8, written, 80, &number));
+    expect("NULL as a number", 15, idsm_seal(&sealer, three, 8, written, 80, NULL));
+    expect("nothing at NULL", 0, idsm_seal(&sealer, NULL, 0, NULL, 0, &number));
+    expect_seal("a message", 0, &sealer, three + 8, 11, 53, 53);
+    expect_written("it, sealed", sealed, 53);
+    expect("the counter that is due", 6, sealer.next);
+    expect("the greatest start", 0, idsm_sealer_init(&sealer, three, 35, (uint64_t)1 << 62));
+    expect_seal("the last message", 0, &sealer, three, 8, 50, 50);
+    memset(written, 0xa5, sizeof written);
+    expect("the counter behind it", ((uint64_t)1 << 62) + 1, sealer.next);
+    expect_seal("one more", 10, &sealer, three, 8, 80, 0);
+    expect_seal("no more", 10, &sealer, three, 0, 80, 0);
 }
 
 /* What two reports with context give under a mode, of an event of which every second one passes. */
@@ -938,6 +1068,8 @@ int main(void)
     refused_reports();
     refused_turns();
     walks();
+    units();
+    seals();
     refused_messages();
     modes();
     memory();

@@ -33,7 +33,7 @@ typedef uint8_t idsm_answer;
 
 /* What each call answers. */
 #define IDSM_DONE 0U
-#define IDSM_UNSET 1U           /* the handle has nothing: no init filled it */
+#define IDSM_UNSET 1U           /* the handle or the sealer has nothing: no init filled it */
 #define IDSM_OTHER_ROLE 2U      /* a manager where a caller is wanted, or a caller where a manager is */
 #define IDSM_LOST 3U            /* no event buffer was free */
 #define IDSM_WITHOUT_CONTEXT 4U /* reported, without its context data: no buffer that fits was free */
@@ -42,7 +42,7 @@ typedef uint8_t idsm_answer;
 #define IDSM_SPENT 7U           /* 2^40 calls of a caller, or 2^62 turns of a manager */
 #define IDSM_TICK_BACK 8U       /* the tick is below that of the last turn */
 #define IDSM_TICK_TOO_LARGE 9U  /* the tick is above 2^62 */
-#define IDSM_OUT_OF_RANGE 10U   /* no such event, mode, record, class or message, or another number of callers */
+#define IDSM_OUT_OF_RANGE 10U   /* no such event, mode, record, class, message, size or key, or another number of callers */
 #define IDSM_NO_MEMORY 11U      /* the heap had none, or the arena is too small */
 #define IDSM_CONFIGURATION 12U  /* the configuration has a fault */
 #define IDSM_SMALL_BUFFER 13U   /* the buffer is too small; nothing was done */
@@ -52,6 +52,7 @@ typedef uint8_t idsm_answer;
 #define IDSM_CLOSED 17U         /* the callers were stopped, or the manager was closed; nothing was done */
 #define IDSM_NOT_SENT 18U       /* messages of an earlier turn were not taken yet; no turn was made */
 #define IDSM_OTHER_CONFIGURATION 19U /* of IdsM_Init: not the configuration that the program was compiled for */
+#define IDSM_BAD_MESSAGE 20U    /* a message cannot be read, is longer than a unit may be, or is signed already */
 
 /* Reporting modes. */
 #define IDSM_MODE_OFF 0U
@@ -209,6 +210,13 @@ typedef struct idsm_row {
     uint8_t has_stamp;    /* 1: `stamp` counts; else 0 */
 } idsm_row;
 
+/* A key, and the counter of the next message that is sealed. Zeros before idsm_sealer_init; C writes nothing of it. */
+typedef struct idsm_sealer {
+    uint64_t next;   /* the counter: who keeps it over a power cycle goes on with it */
+    uint8_t key[64]; /* the key, filled with zeros */
+    uint8_t is_set;  /* 1: idsm_sealer_init filled it; else 0 */
+} idsm_sealer;
+
 /* A tick of 32 bits that is widened to 64. Zeros at first. */
 typedef struct idsm_clock {
     uint64_t ticks; /* the last result of idsm_widen */
@@ -312,9 +320,40 @@ typedef idsm_answer idsm_send(void *to, const uint8_t *message, size_t length);
 idsm_answer idsm_main_send(idsm_manager *manager, uint64_t tick, uint8_t *buffer, size_t bytes, idsm_send *send,
                            void *to, idsm_sent *sent);
 
-/* The length of the message that begins at byte `at` of a turn's messages: IDSM_OUT_OF_RANGE if none does, as at their end.
-   From any context: it looks at nothing but the bytes. */
+/* The length of the message that begins at byte `at` of a turn's messages, or of sealed ones: IDSM_OUT_OF_RANGE if none
+   does, as at their end. From any context: it looks at nothing but the bytes. */
 idsm_answer idsm_message(const uint8_t *messages, size_t bytes, size_t at, size_t *length);
+
+/* Puts a unit of the first messages to the front of `unit`, for a bus whose frames have one size (docs/FORMATS.md): as many
+   whole messages as have at most `size` bytes, with 4 bytes before them. The next call is for the messages behind the *taken
+   bytes, until none are left. Sealed messages may be packed, too. The bytes behind the unit stay. `messages` and `unit` may
+   not overlap. From any context; it takes time with the unit and the message behind it.
+     IDSM_DONE            *unit_bytes is how many bytes the unit has, at most size + 4
+     IDSM_OUT_OF_RANGE    `size` is below 64, or there are no messages
+     IDSM_BAD_MESSAGE     the first message cannot be read, or has more than `size` bytes
+     IDSM_SMALL_BUFFER    `room` is less than *unit_bytes, which the unit has
+     IDSM_NULL            a pointer is NULL; `messages` and `unit` may be if they have no bytes
+   At each answer but IDSM_DONE `unit` is as it was and *taken is 0, and *unit_bytes is 0 if nothing else is said. */
+idsm_answer idsm_unit(uint16_t size, const uint8_t *messages, size_t bytes, uint8_t *unit, size_t room,
+                      size_t *unit_bytes, size_t *taken);
+
+/* Fills a sealer with a key of 1 to 64 bytes and the counter of the first message, at most 2^62. IDSM_OUT_OF_RANGE: there is no
+   such key or counter; the sealer is as it was then. From any context; one call at a time for a sealer, this one or
+   idsm_seal. */
+idsm_answer idsm_sealer_init(idsm_sealer *sealer, const uint8_t *key, size_t bytes, uint64_t start);
+
+/* Seals messages to the front of `out`: each gets the counter that is due and a tag under the key (docs/FORMATS.md), 42 bytes.
+   The bytes behind them stay. The sealer, `messages` and `out` may not overlap. From any context; one call at a time for a
+   sealer. It takes time with the bytes, with three blocks of SHA-256 for each message, and with two for the call.
+     IDSM_DONE            all are sealed, none if there are none; *written is how many bytes they have
+     IDSM_UNSET           the sealer is zeros
+     IDSM_OUT_OF_RANGE    the sealer's counter is above 2^62
+     IDSM_BAD_MESSAGE     the message at byte *written cannot be read, or has a signature already
+     IDSM_SMALL_BUFFER    `room` is less than *written, which they have when they are sealed
+     IDSM_NULL            a pointer is NULL; `messages` and `out` may be if they have no bytes
+   At each answer but IDSM_DONE `out` and the sealer are as they were, and *written is 0 if nothing else is said. */
+idsm_answer idsm_seal(idsm_sealer *sealer, const uint8_t *messages, size_t bytes, uint8_t *out, size_t room,
+                      size_t *written);
 
 /* The event memory as the last turn left it. From a task; IDSM_BUSY while a turn runs. How many records it has; the record
    i, from the one stored longest ago on, with its context (IDSM_OUT_OF_RANGE if there is no such record, IDSM_SMALL_BUFFER

@@ -91,6 +91,11 @@ uint8_t idsm_raw_totals(idsm_word *manager, idsm_totals *totals);
 uint8_t idsm_raw_mode(idsm_word *manager, uint16_t event, uint8_t *mode);
 uint8_t idsm_raw_journal(idsm_word *manager, uint64_t at, uint8_t *buffer, size_t size, uint64_t *bytes);
 uint8_t idsm_raw_close(idsm_word *handle);
+uint8_t idsm_raw_unit(uint16_t size, const uint8_t *messages, size_t bytes, uint8_t *buffer, size_t room,
+                      uint64_t *unit_bytes, uint64_t *taken);
+uint8_t idsm_raw_sealer(const uint8_t *key, size_t bytes, uint64_t start, idsm_sealer *sealer);
+uint8_t idsm_raw_seal(idsm_sealer *sealer, const uint8_t *messages, size_t bytes, uint8_t *buffer, size_t room,
+                      uint64_t *told);
 
 /* The calls that the proved library makes for memory. `at` is never NULL, and counts if `ok` is 1. */
 typedef struct idsm_block {

@@ -259,6 +259,39 @@ uint8_t idsm_raw_close(idsm_word *handle)
     return IDSM_DONE;
 }
 
+uint8_t idsm_raw_unit(uint16_t size, const uint8_t *messages, size_t bytes, uint8_t *to, size_t room,
+                      uint64_t *unit_bytes, uint64_t *taken)
+{
+    expect("a unit's buffer at an address", 1, to != NULL);
+    expect("what a unit tells at first", 0, *unit_bytes + *taken);
+    expect_bytes(messages, bytes);
+    given[0] = size;
+    given[1] = room;
+    *unit_bytes = 27;
+    *taken = 28;
+    return answers();
+}
+
+uint8_t idsm_raw_sealer(const uint8_t *key, size_t bytes, uint64_t start, idsm_sealer *sealer)
+{
+    expect_bytes(key, bytes);
+    given[0] = start;
+    sealer->next = 29;
+    return answers();
+}
+
+uint8_t idsm_raw_seal(idsm_sealer *sealer, const uint8_t *messages, size_t bytes, uint8_t *to, size_t room,
+                      uint64_t *told)
+{
+    expect("a buffer for seals at an address", 1, to != NULL);
+    expect("what a sealing tells at first", 0, *told);
+    expect_bytes(messages, bytes);
+    given[0] = sealer->next;
+    given[1] = room;
+    *told = 30;
+    return answers();
+}
+
 static idsm_caller callers[2];
 static idsm_manager manager;
 static uint8_t buffer[8];
@@ -318,6 +351,25 @@ static void reports(void)
     expect_report("a stamp of 0", 5, 1, 0, NULL, 0);
 }
 
+/* Units and seals, of bytes and of none. */
+static void messages_of(const uint8_t *bytes, size_t count, uint8_t *room_at, size_t room)
+{
+    idsm_sealer sealer = {0, {0}, 0};
+    size_t number = 9, taken = 9;
+    expect("a unit", answer, idsm_unit(1234, bytes, count, room_at, room, &number, &taken));
+    expect("its size and room", 1234 + room, given[0] + given[1]);
+    expect("its messages", count, bytes_given);
+    expect("what it tells", 1, number == 27 && taken == 28);
+    expect("a key", answer, idsm_sealer_init(&sealer, bytes, count, (uint64_t)1 << 63));
+    expect("its start", (uint64_t)1 << 63, given[0]);
+    expect("its bytes", count, bytes_given);
+    expect("a seal", answer, idsm_seal(&sealer, bytes, count, room_at, room, &number));
+    expect("its counter and room", 29 + room, given[0] + given[1]);
+    expect("its messages", count, bytes_given);
+    expect("what it tells", 30, number);
+    expect("where they are", 1, bytes == NULL || bytes_at == bytes);
+}
+
 /* Each call with each number of an answer. */
 static void calls(void)
 {
@@ -328,6 +380,8 @@ static void calls(void)
     size_t count;
     uint8_t mode = 9;
     reports();
+    messages_of(buffer, 3, buffer + 3, 5);
+    messages_of(NULL, 0, NULL, 0);
     expect("a state", answer, idsm_set_state(callers, 201));
     expect("a state", 201, given[0]);
     expect("a mode", answer, idsm_set_mode(callers, 300, 3));
@@ -507,7 +561,7 @@ static void inits_of_tables(void)
     static const idsm_options options = {21, 1};
     idsm_config none = tables;
     idsm_fault fault;
-    for (answer = 1; answer < 20; answer++) {
+    for (answer = 1; answer < 21; answer++) {
         expect("a refused init of tables", answer, idsm_init(&tables, &options, callers, 2, &manager, &fault));
         expect_tables("its tables", &tables, 1);
         expect("its fault", 1, fault.number == 11 && fault.part == 12 && fault.place == 13);
@@ -861,7 +915,7 @@ int main(void)
     expect("idsm_abi", 77, idsm_abi());
     expect("IdsM_Init over a library of another number", 10, IdsM_Init(NULL));
     expect("what the library is given then", 0, handles_given);
-    for (answer = 1; answer < 20; answer++) {
+    for (answer = 1; answer < 21; answer++) {
         expect("a refused init", answer, idsm_init_text(buffer, 3, NULL, callers, 2, &manager, &fault));
         expect("its fault", 1, fault.number == 11 && fault.part == 12 && fault.place == 13);
         expect("its handles", 1, callers[0].at == NULL && callers[1].at == NULL && manager.at == NULL);
@@ -883,7 +937,7 @@ int main(void)
     meanwhile = NULL;
     expect("its bytes and journal", 4, bytes_given + (bytes_at == buffer) + journal_given);
     expect("its handles", 2, handles_given);
-    for (answer = 0; answer < 20; answer++)
+    for (answer = 0; answer < 21; answer++)
         calls();
     answer = 0;
     no_bytes();

@@ -2,8 +2,8 @@
    and events of a configuration, answers as idsm_c.h says, and sends each report as a message. It has no filter but the
    modes, no limit, no internal event and no event memory. A class has any number of context data buffers, so a context is
    missing only if no class is large enough. A report that finds another call at work with its manager, and this
-   one does not end soon, is lost. It does not judge a configuration, and nothing of it is proved. It calls nothing of a C
-   library, so c/bare runs over it too. */
+   one does not end soon, is lost. Units and seals are those of docs/FORMATS.md. It does not judge a configuration, and nothing
+   of it is proved. It calls nothing of a C library, so c/bare runs over it too. */
 #include "inner.h"
 
 enum { MOST_EVENTS = 256, MOST_CLASSES = 4, MOST_RING = 1024, MOST_CONTEXT = 1024, MOST_LINE = 72 + 2 * MOST_CONTEXT };
@@ -798,5 +798,154 @@ uint8_t idsm_raw_close(idsm_word *handle)
     handle->at = NULL;
     if (--unit->parts == 0)
         rattle_dealloc(unit);
+    return IDSM_DONE;
+}
+
+uint8_t idsm_raw_unit(uint16_t size, const uint8_t *messages, size_t bytes, uint8_t *buffer, size_t room,
+                      uint64_t *unit_bytes, uint64_t *taken)
+{
+    size_t length, count = 0, load = 0;
+    if (size < 64 || bytes == 0)
+        return IDSM_OUT_OF_RANGE;
+    for (; idsm_message(messages, bytes, load, &length) == IDSM_DONE && length <= size - load; count++)
+        load += length;
+    if (count == 0)
+        return IDSM_BAD_MESSAGE;
+    *unit_bytes = load + 4;
+    if (room < load + 4)
+        return IDSM_SMALL_BUFFER;
+    *taken = load;
+    copy(write_number(write_number(buffer, count, 2), load, 2), messages, load);
+    return IDSM_DONE;
+}
+
+/* SHA-256 of bytes that come in pieces. */
+struct digest {
+    uint32_t state[8];
+    uint8_t block[64];
+    uint64_t bytes;
+};
+
+static uint32_t turned(uint32_t word, int bits)
+{
+    return word >> bits | word << (32 - bits);
+}
+
+/* What a block adds to each of 64 rounds. */
+static void spread(const uint8_t *block, uint32_t *word)
+{
+    for (int i = 0; i < 64; i++)
+        if (i < 16)
+            word[i] = (uint32_t)block[4 * i] << 24 | (uint32_t)block[4 * i + 1] << 16 | (uint32_t)block[4 * i + 2] << 8 |
+                      block[4 * i + 3];
+        else
+            word[i] = word[i - 16] + (turned(word[i - 15], 7) ^ turned(word[i - 15], 18) ^ word[i - 15] >> 3) +
+                      word[i - 7] + (turned(word[i - 2], 17) ^ turned(word[i - 2], 19) ^ word[i - 2] >> 10);
+}
+
+static void take_block(struct digest *digest)
+{
+    static const uint32_t added[64] = {
+        0x428a2f98, 0x71374491, 0xb5c0fbcf, 0xe9b5dba5, 0x3956c25b, 0x59f111f1, 0x923f82a4, 0xab1c5ed5, 0xd807aa98,
+        0x12835b01, 0x243185be, 0x550c7dc3, 0x72be5d74, 0x80deb1fe, 0x9bdc06a7, 0xc19bf174, 0xe49b69c1, 0xefbe4786,
+        0x0fc19dc6, 0x240ca1cc, 0x2de92c6f, 0x4a7484aa, 0x5cb0a9dc, 0x76f988da, 0x983e5152, 0xa831c66d, 0xb00327c8,
+        0xbf597fc7, 0xc6e00bf3, 0xd5a79147, 0x06ca6351, 0x14292967, 0x27b70a85, 0x2e1b2138, 0x4d2c6dfc, 0x53380d13,
+        0x650a7354, 0x766a0abb, 0x81c2c92e, 0x92722c85, 0xa2bfe8a1, 0xa81a664b, 0xc24b8b70, 0xc76c51a3, 0xd192e819,
+        0xd6990624, 0xf40e3585, 0x106aa070, 0x19a4c116, 0x1e376c08, 0x2748774c, 0x34b0bcb5, 0x391c0cb3, 0x4ed8aa4a,
+        0x5b9cca4f, 0x682e6ff3, 0x748f82ee, 0x78a5636f, 0x84c87814, 0x8cc70208, 0x90befffa, 0xa4506ceb, 0xbef9a3f7,
+        0xc67178f2
+    };
+    uint32_t word[64], s[8];
+    spread(digest->block, word);
+    for (int i = 0; i < 8; i++)
+        s[i] = digest->state[i];
+    for (int i = 0; i < 64; i++) {
+        uint32_t one = s[7] + (turned(s[4], 6) ^ turned(s[4], 11) ^ turned(s[4], 25)) +
+                       ((s[4] & s[5]) ^ (~s[4] & s[6])) + added[i] + word[i];
+        uint32_t other = (turned(s[0], 2) ^ turned(s[0], 13) ^ turned(s[0], 22)) +
+                         ((s[0] & s[1]) ^ (s[0] & s[2]) ^ (s[1] & s[2]));
+        for (int k = 7; k > 0; k--)
+            s[k] = s[k - 1];
+        s[4] += one;
+        s[0] = one + other;
+    }
+    for (int i = 0; i < 8; i++)
+        digest->state[i] += s[i];
+}
+
+static void take_bytes(struct digest *digest, const uint8_t *bytes, size_t count)
+{
+    for (size_t i = 0; i < count; i++) {
+        digest->block[digest->bytes++ % 64] = bytes[i];
+        if (digest->bytes % 64 == 0)
+            take_block(digest);
+    }
+}
+
+/* Begins the digest of a key, each byte combined with a mask, and of what follows. */
+static struct digest masked(const uint8_t *key, uint8_t mask)
+{
+    struct digest digest = {{0x6a09e667, 0xbb67ae85, 0x3c6ef372, 0xa54ff53a, 0x510e527f, 0x9b05688c, 0x1f83d9ab, 0x5be0cd19},
+                            {0},
+                            0};
+    for (int i = 0; i < 64; i++) {
+        uint8_t byte = key[i] ^ mask;
+        take_bytes(&digest, &byte, 1);
+    }
+    return digest;
+}
+
+static void finish(struct digest *digest, uint8_t *to)
+{
+    static const uint8_t end[64] = {0x80};
+    uint8_t bits[8];
+    write_number(bits, digest->bytes * 8, 8);
+    take_bytes(digest, end, 1 + (119 - digest->bytes % 64) % 64);
+    take_bytes(digest, bits, 8);
+    for (int i = 0; i < 8; i++)
+        write_number(to + 4 * i, digest->state[i], 4);
+}
+
+/* Writes a message, sealed. */
+static uint8_t *write_sealed(uint8_t *at, idsm_sealer *sealer, const uint8_t *message, size_t length)
+{
+    struct digest inner = masked(sealer->key, 0x36), outer = masked(sealer->key, 0x5c);
+    uint8_t tag[32];
+    copy(at, message, length);
+    *at |= 4;
+    at = write_number(write_number(at + length, 40, 2), sealer->next++, 8);
+    take_bytes(&inner, message, length);
+    take_bytes(&inner, at - 8, 8);
+    finish(&inner, tag);
+    take_bytes(&outer, tag, sizeof tag);
+    finish(&outer, at);
+    return at + sizeof tag;
+}
+
+uint8_t idsm_raw_sealer(const uint8_t *key, size_t bytes, uint64_t start, idsm_sealer *sealer)
+{
+    if (bytes == 0 || bytes > sizeof sealer->key || start > (uint64_t)1 << 62)
+        return IDSM_OUT_OF_RANGE;
+    for (size_t i = 0; i < sizeof sealer->key; i++)
+        sealer->key[i] = i < bytes ? key[i] : 0;
+    sealer->next = start;
+    sealer->is_set = 1;
+    return IDSM_DONE;
+}
+
+uint8_t idsm_raw_seal(idsm_sealer *sealer, const uint8_t *messages, size_t bytes, uint8_t *buffer, size_t room,
+                      uint64_t *told)
+{
+    size_t at, length;
+    uint64_t wanted = 0;
+    if (sealer->is_set == 0 || sealer->next > (uint64_t)1 << 62)
+        return sealer->is_set == 0 ? IDSM_UNSET : IDSM_OUT_OF_RANGE;
+    for (at = 0; idsm_message(messages, bytes, at, &length) == IDSM_DONE && (messages[at] & 4) == 0; at += length)
+        wanted += length + 42;
+    *told = at < bytes ? at : wanted;
+    if (at < bytes || room < wanted)
+        return at < bytes ? IDSM_BAD_MESSAGE : IDSM_SMALL_BUFFER;
+    for (at = 0; idsm_message(messages, bytes, at, &length) == IDSM_DONE; at += length)
+        buffer = write_sealed(buffer, sealer, messages + at, length);
     return IDSM_DONE;
 }
