@@ -1,5 +1,5 @@
-/* Drawn messages of all lengths, packed into units of several sizes, packed into units of one size, and sealed under a key. The
-   program idsm makes the messages of the files again (c/check), which are messages, units, packed, sealed and key.
+/* Drawn messages of all lengths, packed into units of several sizes and into units of one size, and sealed under a key. It
+   writes the files messages, units, packed, sealed and key, of which the program idsm makes the messages again (c/check).
 
        sealed_units FOLDER NUMBER */
 #include <stdio.h>
@@ -40,7 +40,7 @@ static uint32_t drawn(void)
 static size_t draw_message(uint8_t *at)
 {
     uint32_t parts = drawn(), version = 1 + (parts >> 4) % 2, has_context = parts % 4 > 0, has_stamp = (parts >> 2) % 2;
-    size_t length = has_stamp ? 16 : 8, context = drawn() % (drawn() % 128 == 0 ? 1025 : 48);
+    size_t length = has_stamp ? 16 : 8, most = drawn() % 128 == 0 ? 1024 : 47, context = drawn() % (most + 1);
     for (size_t i = 1; i < length; i++)
         at[i] = (uint8_t)drawn();
     at[0] = (uint8_t)(version << 4 | has_stamp << 1 | has_context);
@@ -89,6 +89,8 @@ static size_t pack(FILE *file, const uint16_t *sizes, size_t number, const uint8
         expect("its bytes", 1, taken >= length && taken <= size && unit == taken + 4);
         expect_filled("behind it", out + unit, size + SIZE - taken);
         put(file, out, unit);
+        if (taken == 0)
+            exit(1);
     }
     return units;
 }
@@ -103,10 +105,11 @@ static uint64_t seal(FILE *file, idsm_sealer *sealer, const uint8_t *messages, s
         expect("messages are sealed", IDSM_DONE, idsm_seal(sealer, messages + at, end - at, out, ROOM, &written));
         put(file, out, written);
         some++;
+        if (end == at)
+            exit(1);
     }
     return sealer->next;
 }
-
 
 int main(int count, char **words)
 {
@@ -114,7 +117,7 @@ int main(int count, char **words)
     static const uint8_t key[] = "a key of 23 bytes, of C";
     size_t number = count == 3 ? strtoul(words[2], NULL, 10) : 0, bytes = 0;
     uint8_t *messages = (uint8_t *)malloc(number * 60 + 2048);
-    idsm_sealer sealer;
+    idsm_sealer sealer = {0, {0}, 0};
     if (number == 0 || messages == NULL)
         return 2;
     for (size_t i = 0; i < number && bytes <= number * 60; i++)
