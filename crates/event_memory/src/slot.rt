@@ -121,8 +121,13 @@ fn put_bytes(kept: &mut Vec<u8>, bytes: &[u8])
     ensures items { kept.new.items ≡ bytes.now }
     ensures capacity { vec_capacity kept.old ≤ vec_capacity kept.new }
 {
-    kept.clear();
-    if !bytes.is_empty() {
+    if bytes.is_empty() {
+        kept.clear();
+    } else if kept.len() == bytes.len() {
+        // The contexts of an event mostly have one length, which stays as it is.
+        kept.copy_from_slice(bytes);
+    } else {
+        kept.clear();
         kept.extend_from_slice(bytes).unwrap();
     }
 }
