@@ -1,6 +1,6 @@
 //! The filter chain: all filters, the event memory and the sender, one after the other.
 //!
-//! Layer 7, the chain. Over `ids_types`, `ids_config`, `chain_spec`, `filter_chain`, the filters, `event_memory`,
+//! Layer 7, the chain. Over `ids_types`, `ids_config`, `chain_spec`, `filter_chain`, the filters, `limits`, `event_memory`,
 //! `internal_events` and `message_sender`; the main function and the runs make one turn after another with it.
 //! Contracts are those of the trait `Chain`: an `EventChain` stands for a configuration and turns
 //! and each of its parts for the endings so far (`specs/Standing.antt`).
